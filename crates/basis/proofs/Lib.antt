@@ -1,0 +1,4 @@
+pub mod Pick
+pub mod Bytes
+pub mod Laid
+pub mod Lists

@@ -1,0 +1,88 @@
+-- "UTF-8 by RFC 3629": the grammar of its section 4, and the test that a put makes.
+-- Assumes nothing.
+use mathlib.Core.Path.{_≡_}
+use mathlib.Core.Logic.{_↔_}
+use mathlib.Core.Bool.{Bool, true, false}
+use mathlib.Core.List.{List, [], _∷_, _++_}
+use Prim.Native.Nat.{ℕ, _≤_}
+use lib.Dec.{ltb}
+use Rattle.basis.specs.Pick.{pick}
+
+-- %xLO-HI of the RFC's grammar: one byte from lo to hi
+infix 30 _to_
+pub data Range : Type 0 where
+  _to_ : (lo hi : ℕ) → Range
+
+-- UTF8-tail = %x80-BF
+abbrev pub tail : Range
+tail = 0x80 to 0xBF
+
+-- UTF8-char, each alternative a line: UTF8-1, UTF8-2, the four of UTF8-3, the three of UTF8-4
+abbrev pub forms : List (List Range)
+forms =
+    (0x00 to 0x7F ∷ [])
+    ∷ (0xC2 to 0xDF ∷ tail ∷ [])
+    ∷ (0xE0 to 0xE0 ∷ 0xA0 to 0xBF ∷ tail ∷ [])
+    ∷ (0xE1 to 0xEC ∷ tail ∷ tail ∷ [])
+    ∷ (0xED to 0xED ∷ 0x80 to 0x9F ∷ tail ∷ [])
+    ∷ (0xEE to 0xEF ∷ tail ∷ tail ∷ [])
+    ∷ (0xF0 to 0xF0 ∷ 0x90 to 0xBF ∷ tail ∷ tail ∷ [])
+    ∷ (0xF1 to 0xF3 ∷ tail ∷ tail ∷ tail ∷ [])
+    ∷ (0xF4 to 0xF4 ∷ 0x80 to 0x8F ∷ tail ∷ tail ∷ [])
+    ∷ []
+
+-- a byte in a range; bytes that are one of a form's, range by range
+abbrev pub In : Range → ℕ → Type 0
+In (lo to hi) b = (lo ≤ b) × (b ≤ hi)
+
+pub data Fits : List Range → List ℕ → Type 0 where
+  end : Fits [] []
+  next : {r : Range} {rs : List Range} {b : ℕ} {s : List ℕ} → In r b → Fits rs s → Fits (r ∷ rs) (b ∷ s)
+
+-- one of a list's forms
+pub data OneOf : List Range → List (List Range) → Type 0 where
+  here : {f : List Range} {fs : List (List Range)} → OneOf f (f ∷ fs)
+  there : {f g : List Range} {fs : List (List Range)} → OneOf f fs → OneOf f (g ∷ fs)
+
+-- UTF8-octets = *( UTF8-char )
+pub data Utf8 : List ℕ → Type 0 where
+  none : Utf8 []
+  char : {f : List Range} {c s : List ℕ} → OneOf f forms → Fits f c → Utf8 s → Utf8 (c ++ s)
+
+-- ---- the test
+
+abbrev pub within : Range → ℕ → Bool
+within (lo to hi) b = pick (ltb b lo) false (pick (ltb hi b) false true)
+
+-- what is due: the ranges that the character begun still wants, or that the byte begins none
+pub data Due : Type 0 where
+  wants : (ranges : List Range) → Due
+  broken : Due
+
+-- the rest of the first form that the byte begins
+abbrev pub begun : ℕ → List (List Range) → Due
+begun b [] = broken
+begun b ([] ∷ fs) = begun b fs
+begun b ((r ∷ rs) ∷ fs) = pick (within r b) (wants rs) (begun b fs)
+
+abbrev pub onward : Due → ℕ → Due
+onward (wants []) b = begun b forms
+onward (wants (r ∷ rs)) b = pick (within r b) (wants rs) broken
+onward broken b = broken
+
+abbrev pub dueAfter : Due → List ℕ → Due
+dueAfter d [] = d
+dueAfter d (b ∷ s) = dueAfter (onward d b) s
+
+abbrev pub complete : Due → Bool
+complete (wants []) = true
+complete (wants (r ∷ rs)) = false
+complete broken = false
+
+-- no character begun and not ended
+unfoldable pub isUtf8 : List ℕ → Bool
+isUtf8 s = complete (dueAfter (wants []) s)
+
+-- PROMISE utf8: the test says yes exactly to what the RFC's grammar derives.
+abbrev pub Utf8Exactly : Type 0
+Utf8Exactly = (s : List ℕ) → (isUtf8 s ≡ true) ↔ Utf8 s
