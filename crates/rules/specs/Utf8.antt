@@ -9,7 +9,7 @@ use lib.Dec.{ltb}
 use Rattle.basis.specs.Pick.{pick}
 
 -- %xLO-HI of the RFC's grammar: one byte from lo to hi
-infix 30 _to_
+infix 80 _to_
 pub data Range : Type 0 where
   _to_ : (lo hi : ℕ) → Range
 
