@@ -1,0 +1,122 @@
+-- What follows from the layouts and their readings: reading what was written gives its meaning back. Proofs: proofs/Round.antt, proofs/Heard.antt.
+-- Assumes nothing.
+use mathlib.Core.Path.{_≡_}
+use mathlib.Core.Logic.{_↔_, _⊎_}
+use mathlib.Core.Bool.{Bool, true, false}
+use mathlib.Core.List.{List, [], _∷_, _++_}
+use mathlib.Core.Option.{Option, some}
+use Prim.Native.Nat.{ℕ, _+_, _-_, _*_, _^_, _<_, _≤_}
+use lib.ListN.{length, take}
+use Rattle.basis.specs.Bytes.{numAt}
+use Rattle.rules.specs.Fields.{wire}
+use Rattle.rules.specs.Numbers.{goodWidth, H, F, C}
+use Rattle.rules.specs.Checksum.{crc16}
+use Rattle.rules.specs.Layout.{Said, metadata, fileData, eof, ackFinished, Heard, finished, ackEof, nak, keepAlive, Pdu, headBytes, layoutHeard, encode, encodeHeard, pduLength}
+use Rattle.rules.specs.Reading.{reserved, lengthIn, frameIn, framedIn, headIn, hIn, bodyIn, bodyOf, areTlvs, requestsFrom}
+use Rattle.rules.specs.Decoding.{decode, isEofIn}
+use Rattle.rules.specs.declared.Head.{Head}
+use Rattle.rules.specs.declared.Frame.{Frame}
+use Rattle.rules.specs.declared.Framed.{Framed}
+use Rattle.rules.specs.declared.Framed.the-variants.{Whole}
+use Rattle.rules.specs.declared.SegmentRequest.{SegmentRequest}
+use Rattle.rules.specs.declared.Meaning.{Meaning}
+use Rattle.rules.specs.declared.Meaning.the-variants.{Finished, AckOfEof, Nak, KeepAlive}
+use Rattle.rules.specs.declared.Body.{Body}
+use Rattle.rules.specs.declared.Body.the-variants.{Means}
+
+-- ---- what can be written
+
+-- a header whose ids and number fit their widths, both ids of one width
+pub record Fit (h : Head) : Type 0 where
+  pub id-width : goodWidth (h .source .0) ≡ true
+  pub one-width : h .destination .0 ≡ h .source .0
+  pub seq-width : goodWidth (h .number .0) ≡ true
+  pub source : h .source .1 < 2 ^ (8 * h .source .0)
+  pub number : h .number .1 < 2 ^ (8 * h .number .0)
+  pub destination : h .destination .1 < 2 ^ (8 * h .source .0)
+
+-- values that fit their fields
+abbrev pub Sayable : Bool → Said → Type 0
+Sayable large (metadata closure type n a b) = (type < 16) × (n < 2 ^ (8 * F large)) × (length a < 256) × (length b < 256)
+Sayable large (fileData o bs) = (o < 2 ^ (8 * F large)) × (length bs < 65000)
+Sayable large (eof c k n) = (c < 16) × (k < 2 ^ 32) × (n < 2 ^ (8 * F large))
+Sayable large (ackFinished c t) = (c < 16) × (t < 4)
+
+abbrev pub GoodTlvs : List (ℕ × List ℕ) → Type 0
+GoodTlvs [] = Unit {0}
+GoodTlvs (t ∷ ts) = ((t .0 ≡ 1) ⊎ (t .0 ≡ 6)) × (length (t .1) < 256) × GoodTlvs ts
+
+abbrev pub RequestsFit : Bool → List SegmentRequest → Type 0
+RequestsFit large [] = Unit {0}
+RequestsFit large (r ∷ rs) = (r .start < 2 ^ (8 * F large)) × (r .end < 2 ^ (8 * F large)) × RequestsFit large rs
+
+abbrev pub Hearable : Bool → Heard → Type 0
+Hearable large (finished c d s ts) = (c < 16) × (reserved c ≡ false) × (d < 2) × (s < 4) × GoodTlvs ts
+Hearable large (ackEof c t) = (c < 16) × (reserved c ≡ false) × (t < 4)
+Hearable large (nak a b rs) = (a < 2 ^ (8 * F large)) × (b < 2 ^ (8 * F large)) × RequestsFit large rs
+Hearable large (keepAlive p) = p < 2 ^ (8 * F large)
+
+-- ---- the laws
+
+-- LAW round-trip: for every meaning that a sender can write, reading what was written gives the meaning back.
+abbrev pub RoundTrip : Type 0
+RoundTrip = (h : Head) (m : Said) → Fit h → Sayable (h .large) m → decode (encode h m) ≡ some (record { head = h; said = m })
+
+-- LAW same-bytes: two meanings with the same bytes are one.
+abbrev pub SameBytes : Type 0
+SameBytes =
+    (h g : Head) (m n : Said) → Fit h → Fit g → Sayable (h .large) m → Sayable (g .large) n → encode h m ≡ encode g n → (h ≡ g) × (m ≡ n)
+
+-- LAW crc-checks: with the CRC flag, the last two bytes of a written PDU are the CRC-16 of all before them.
+abbrev pub CrcChecks : Type 0
+CrcChecks =
+    (h : Head) (m : Said) → Fit h → h .crc ≡ true
+    → numAt (encode h m) (length (encode h m) - 2) 2 ≡ crc16 (take (length (encode h m) - 2) (encode h m))
+
+-- LAW length-agrees: a written PDU is as long as its definition says, and its length field says so.
+abbrev pub LengthAgrees : Type 0
+LengthAgrees =
+    (h : Head) (m : Said) → Fit h → Sayable (h .large) m
+    → (length (encode h m) ≡ pduLength h m) × (H h + lengthIn (encode h m) ≡ length (encode h m))
+
+-- LAW headers-differ: two different headers of equal widths never have the same bytes.
+abbrev pub HeadersDiffer : Type 0
+HeadersDiffer =
+    (h g : Head) (a b c d : Bool) (n k : ℕ) → Fit h → Fit g → n < 65536 → k < 65536
+    → h .source .0 ≡ g .source .0 → h .number .0 ≡ g .number .0
+    → headBytes h a b n ≡ headBytes g c d k → (h ≡ g) × (a ≡ c) × (b ≡ d) × (n ≡ k)
+
+-- what a peer's PDU comes to
+abbrev pub meaningOf : Heard → Meaning
+meaningOf (finished c d s ts) = Finished (record { condition = c; delivery = d; status = s })
+meaningOf (ackEof c t) = AckOfEof
+meaningOf (nak a b rs) = Nak (length rs)
+meaningOf (keepAlive p) = KeepAlive p
+
+abbrev pub requestsOf : Heard → List SegmentRequest
+requestsOf (finished c d s ts) = []
+requestsOf (ackEof c t) = []
+requestsOf (nak a b rs) = rs
+requestsOf (keepAlive p) = []
+
+-- the place of a NAK's first pair among the delivered bytes
+abbrev pub firstPair : Head → ℕ
+firstPair h = H h + 1 + F (h .large) + F (h .large)
+
+-- LAW heard: whatever a peer writes by the layouts is not refused, and has the meaning, and the requests, that the peer gave it.
+abbrev pub HeardRead : Type 0
+HeardRead =
+    (h : Head) (m : Heard) → Fit h → Hearable (h .large) m → length (wire (layoutHeard (h .large) m)) + C (h .crc) < 65536
+    → (framedIn (encodeHeard h m) ≡ Whole (frameIn (encodeHeard h m)))
+    × (frameIn (encodeHeard h m) .head ≡ h)
+    × (bodyOf (frameIn (encodeHeard h m)) (bodyIn (encodeHeard h m)) ≡ Means (meaningOf m))
+    × (requestsFrom (length (requestsOf m)) (h .large) (encodeHeard h m) (firstPair h) ≡ requestsOf m)
+
+-- a run of TLVs, as a grammar: type 1 or 6, a length, as many bytes
+pub data Tlvs : List ℕ → Type 0 where
+  end : Tlvs []
+  tlv : {t : ℕ} {value s : List ℕ} → (t ≡ 1) ⊎ (t ≡ 6) → Tlvs s → Tlvs (t ∷ length value ∷ (value ++ s))
+
+-- LAW tlvs: the test of a Finished PDU's end says yes exactly to runs of TLVs of type 1 and 6, each closing inside the body.
+abbrev pub TlvsExactly : Type 0
+TlvsExactly = (s : List ℕ) → (areTlvs s ≡ true) ↔ Tlvs s
