@@ -115,7 +115,7 @@ HeardRead =
 -- a run of TLVs, as a grammar: type 1 or 6, a length, as many bytes
 pub data Tlvs : List ℕ → Type 0 where
   end : Tlvs []
-  tlv : {t : ℕ} {value s : List ℕ} → (t ≡ 1) ⊎ (t ≡ 6) → Tlvs s → Tlvs (t ∷ length value ∷ (value ++ s))
+  tlv : {t : ℕ} {s : List ℕ} → (t ≡ 1) ⊎ (t ≡ 6) → (value : List ℕ) → Tlvs s → Tlvs (t ∷ length value ∷ (value ++ s))
 
 -- LAW tlvs: the test of a Finished PDU's end says yes exactly to runs of TLVs of type 1 and 6, each closing inside the body.
 abbrev pub TlvsExactly : Type 0
