@@ -6,3 +6,11 @@ pub mod Layout
 pub mod Reading
 pub mod Decoding
 pub mod PduLaws
+pub mod Refusals
+pub mod States
+pub mod Queues
+pub mod Put
+pub mod Deliver
+pub mod Step
+pub mod Cancel
+pub mod Calls

@@ -1,0 +1,170 @@
+-- Put: refusals 1 to 8 in checking order, or the state anew.
+-- Assumes nothing.
+use mathlib.Core.Path.{_≡_}
+use mathlib.Core.Bool.{Bool, true, false}
+use mathlib.Core.List.{List, [], _∷_, _++_}
+use Prim.Native.Nat.{ℕ, suc, _-_, min}
+use lib.Dec.{eqb, leb, ltb}
+use lib.ListN.{length, getD, take, replicate}
+use Rattle.basis.specs.Pick.{pick}
+use Rattle.rules.specs.Numbers.{fits, larger, widened, numberAfter, isLarge, segmentLength}
+use Rattle.rules.specs.Utf8.{isUtf8}
+use Rattle.rules.specs.Layout.{metadata, pduLength}
+use Rattle.rules.specs.States.{isIdle, emptyQueue, noFile, noMarks}
+use Rattle.rules.specs.declared.EntityId.{EntityId}
+use Rattle.rules.specs.declared.TransactionSeqNum.{TransactionSeqNum}
+use Rattle.rules.specs.declared.Head.{Head}
+use Rattle.rules.specs.declared.RemoteEntityConfig.{RemoteEntityConfig}
+use Rattle.rules.specs.declared.LocalEntityConfig.{LocalEntityConfig}
+use Rattle.rules.specs.declared.Choice.{Choice}
+use Rattle.rules.specs.declared.Choice.the-variants.{Given, Default}
+use Rattle.rules.specs.declared.PutRequest.{PutRequest}
+use Rattle.rules.specs.declared.Fixed.{Fixed}
+use Rattle.rules.specs.declared.Names.{Names}
+use Rattle.rules.specs.declared.State.{State}
+use Rattle.rules.specs.declared.TransactionStep.the-variants.{SendingMetadata}
+use Rattle.rules.specs.declared.Refusal.{Refusal}
+use Rattle.rules.specs.declared.Refusal.the-variants.{AlreadyBusy, BadIdWidth, NoRemoteCfgFound, BadConfig, BadNameLength, SourceFileNotValidUtf8, DestFileNotValidUtf8, PacketLimit}
+use Rattle.rules.specs.declared.Answer.{Answer}
+use Rattle.rules.specs.declared.Answer.the-variants.{Accepted, Refused}
+use Rattle.rules.specs.declared.Done.{Done}
+
+-- ---- the conditions, one after another
+
+-- 2 BadIdWidth: "local id, destination id or sequence number outside the rule"
+unfoldable pub idsFit : EntityId → EntityId → TransactionSeqNum → Bool
+idsFit a b n = pick (fits (a .0) (a .1)) (pick (fits (b .0) (b .1)) (fits (n .0) (n .1)) false) false
+
+-- 3 NoRemoteCfgFound: "the first whose id value equals the destination's is used"; the place of it among these entries, or their number
+unfoldable pub findIn : List RemoteEntityConfig → ℕ → ℕ
+findIn [] v = 0
+findIn (e ∷ es) v = pick (eqb (e .id .1) v) 0 (suc (findIn es v))
+
+-- entries at and past the count are not looked at, and there are eight
+unfoldable pub entries : LocalEntityConfig → List RemoteEntityConfig
+entries c = take (c .count) (c .remotes)
+
+unfoldable pub isFound : LocalEntityConfig → ℕ → Bool
+isFound c v = ltb (findIn (entries c) v) (length (entries c))
+
+abbrev pub noRemote : RemoteEntityConfig
+noRemote =
+    record { id = (0, 0); maxpacket = 0; maxsegment = 0; checksum = 0; crc = false; unacknowledged = false; closure = false; limit = 0 }
+
+unfoldable pub entryOf : LocalEntityConfig → ℕ → RemoteEntityConfig
+entryOf c v = getD (c .remotes) (findIn (entries c) v) noRemote
+
+-- 4 BadConfig: "packet maximum > 4,096, segment maximum 0 or checksum type not 0, 2, 3, 15; or a fault action not 1 (cancel), 3 (ignore), 4 (abandon)"
+unfoldable pub knownType : ℕ → Bool
+knownType t = pick (eqb t 0) true (pick (eqb t 2) true (pick (eqb t 3) true (eqb t 15)))
+
+unfoldable pub knownAction : ℕ → Bool
+knownAction a = pick (eqb a 1) true (pick (eqb a 3) true (eqb a 4))
+
+unfoldable pub allKnown : List ℕ → Bool
+allKnown [] = true
+allKnown (a ∷ l) = pick (knownAction a) (allKnown l) false
+
+unfoldable pub goodEntry : RemoteEntityConfig → Bool
+goodEntry e = pick (ltb 4096 (e .maxpacket)) false (pick (eqb (e .maxsegment) 0) false (knownType (e .checksum)))
+
+unfoldable pub goodConfig : RemoteEntityConfig → List ℕ → Bool
+goodConfig e actions = pick (goodEntry e) (allKnown actions) false
+
+-- 5 BadNameLength: "0 or > 255", of either name
+unfoldable pub goodLength : ℕ → Bool
+goodLength n = pick (eqb n 0) false (leb n 255)
+
+unfoldable pub goodLengths : ℕ → ℕ → Bool
+goodLengths n m = pick (goodLength n) (goodLength m) false
+
+-- ---- what an accepted put makes
+
+-- "Mode and closure are the put's if given, else the entry's."
+abbrev pub chosen : Choice → Bool → Bool
+chosen (Given b) d = b
+chosen Default d = d
+
+abbrev pub headOf : LocalEntityConfig → RemoteEntityConfig → PutRequest → TransactionSeqNum → ℕ → Head
+headOf c e q n S =
+    record {
+      unacknowledged = chosen (q .unacknowledged) (e .unacknowledged);
+      crc = e .crc;
+      large = isLarge S;
+      source = widened (larger (c .id .0) (q .destination .0)) (c .id);
+      number = n;
+      destination = widened (larger (c .id .0) (q .destination .0)) (q .destination);
+    }
+
+-- 8 PacketLimit: "metadata PDU longer than the packet maximum". The length is the same for every closure, type and size of this head
+unfoldable pub tooLong : Head → RemoteEntityConfig → List ℕ → List ℕ → Bool
+tooLong h e source destination = ltb (e .maxpacket) (pduLength h (metadata false 0 0 source destination))
+
+-- "Names .. copied into the state": zeros behind; one that is too long is not copied (no accepted put has one)
+unfoldable pub padded : List ℕ → List ℕ
+padded name = pick (ltb 255 (length name)) (replicate 255 0) (name ++ replicate (255 - length name) 0)
+
+unfoldable pub paddedLength : List ℕ → ℕ
+paddedLength name = pick (ltb 255 (length name)) 0 (length name)
+
+abbrev pub namesOf : List ℕ → List ℕ → Names
+namesOf source destination =
+    record {
+      source = padded source;
+      sourcelen = paddedLength source;
+      destination = padded destination;
+      destinationlen = paddedLength destination;
+    }
+
+abbrev pub fixedOf : LocalEntityConfig → RemoteEntityConfig → PutRequest → Head → ℕ → Fixed
+fixedOf c e q h S =
+    record {
+      head = h;
+      closure = chosen (q .closure) (e .closure);
+      checksum = e .checksum;
+      segment = segmentLength (e .maxsegment) (e .maxpacket) h;
+      size = S;
+      limit = e .limit;
+      actions = c .actions;
+      eofsent = c .eofsent;
+      finished = c .finished;
+    }
+
+-- "Put ends in SendingMetadata, with progress, queue, condition and cancel mark cleared."; "only an accepted put moves" the number
+unfoldable pub started : TransactionSeqNum → Fixed → Names → State
+started n f names =
+    record { number = numberAfter n; step = SendingMetadata; fixed = f; names = names; file = noFile; queue = emptyQueue; marks = noMarks }
+
+-- ---- the call
+
+-- 4 to 8, over the entry found and the head it gives
+unfoldable pub entryAnswer : RemoteEntityConfig → List ℕ → Head → List ℕ → List ℕ → Answer
+entryAnswer e actions h source destination =
+    pick (goodConfig e actions)
+    (pick (goodLengths (length source) (length destination))
+    (pick (isUtf8 source)
+    (pick (isUtf8 destination)
+    (pick (tooLong h e source destination) (Refused PacketLimit) Accepted)
+    (Refused DestFileNotValidUtf8)) (Refused SourceFileNotValidUtf8)) (Refused BadNameLength)) (Refused BadConfig)
+
+unfoldable pub putAnswer : State → LocalEntityConfig → PutRequest → List ℕ → List ℕ → ℕ → Answer
+putAnswer s c q source destination S =
+    let e = entryOf c (q .destination .1) in
+    pick (isIdle (s .step))
+    (pick (idsFit (c .id) (q .destination) (s .number))
+    (pick (isFound c (q .destination .1))
+    (entryAnswer e (c .actions) (headOf c e q (s .number) S) source destination)
+    (Refused NoRemoteCfgFound)) (Refused BadIdWidth)) (Refused AlreadyBusy)
+
+unfoldable pub putState : State → LocalEntityConfig → PutRequest → List ℕ → List ℕ → ℕ → State
+putState s c q source destination S =
+    let e = entryOf c (q .destination .1) in
+    started (s .number) (fixedOf c e q (headOf c e q (s .number) S) S) (namesOf source destination)
+
+-- "A refusal returns its number and changes nothing."
+abbrev pub byAnswer : State → State → Answer → Done
+byAnswer s t Accepted = record { answer = Accepted; state = t }
+byAnswer s t (Refused r) = record { answer = Refused r; state = s }
+
+unfoldable pub putSpec : State → LocalEntityConfig → PutRequest → List ℕ → List ℕ → ℕ → Done
+putSpec s c q source destination S = byAnswer s (putState s c q source destination S) (putAnswer s c q source destination S)

@@ -1,0 +1,240 @@
+-- "A step does the first that applies": the case that is due, then for each case the PDU, the state after it and the events.
+-- Assumes nothing.
+use mathlib.Core.Path.{_≡_}
+use mathlib.Core.Bool.{Bool, true, false}
+use mathlib.Core.List.{List, [], _∷_}
+use Prim.Native.Nat.{ℕ, _+_, _-_, min}
+use lib.Dec.{eqb, leb, ltb}
+use lib.ListN.{length, getD, take, drop}
+use Rattle.basis.specs.Pick.{pick}
+use Rattle.basis.specs.Laid.{inFront}
+use Rattle.rules.specs.Checksum.{sumOf}
+use Rattle.rules.specs.Layout.{Said, metadata, fileData, eof, ackFinished, encode}
+use Rattle.rules.specs.States.{isIdle, toStep, withFile, withQueue, withMarks, progressed, keeping, counted, marked, settled, emptyQueue, idle, sourceName, destinationName}
+use Rattle.rules.specs.Queues.{isMetadata, oldest, piece, served}
+use Rattle.rules.specs.declared.Head.{Head}
+use Rattle.rules.specs.declared.SegmentRequest.{SegmentRequest}
+use Rattle.rules.specs.declared.Eof.{Eof}
+use Rattle.rules.specs.declared.State.{State}
+use Rattle.rules.specs.declared.TransactionStep.{TransactionStep}
+use Rattle.rules.specs.declared.TransactionStep.the-variants.{Idle, SendingMetadata, SendingFileData, SendingEof, WaitingForEofAck, WaitingForFinished, Closing}
+use Rattle.rules.specs.declared.Due.{Due}
+use Rattle.rules.specs.declared.Due.the-variants.{CancelEof, Repair, Metadata, Data, NoErrorEof, EofAgain, FaultCancel, FaultIgnore, FaultAbandon, Close, Nothing}
+use Rattle.rules.specs.declared.Sending.{Sending}
+use Rattle.rules.specs.declared.Sending.the-variants.{Nothing as NoPdu, Metadata as MetadataPdu, FileData, Eof as EofPdu, AckFinished}
+use Rattle.rules.specs.declared.Events.{Events}
+use Rattle.rules.specs.declared.TransactionId.{TransactionId}
+use Rattle.rules.specs.declared.FaultEvent.{FaultEvent}
+use Rattle.rules.specs.declared.FaultEvent.the-variants.{NoFault, Fault}
+use Rattle.rules.specs.declared.FinishedEvent.{FinishedEvent}
+use Rattle.rules.specs.declared.FinishedEvent.the-variants.{NotFinished, Finished}
+use Rattle.rules.specs.declared.FinishedParams.{FinishedParams}
+use Rattle.rules.specs.declared.TimerEvent.{TimerEvent}
+use Rattle.rules.specs.declared.TimerEvent.the-variants.{NoTimer, AckTimer, CheckTimer}
+use Rattle.rules.specs.declared.Refusal.{Refusal}
+use Rattle.rules.specs.declared.Refusal.the-variants.{FileChanged, OutTooSmall}
+use Rattle.rules.specs.declared.Answer.the-variants.{Accepted, Refused}
+use Rattle.rules.specs.declared.Stepped.{Stepped}
+
+-- ---- faults: "the action is the configured one of sixteen for the condition; once cancelled it is abandon"
+
+unfoldable pub actionFor : State → ℕ → ℕ
+actionFor s condition = pick (s .marks .cancelled) 4 (getD (s .fixed .actions) condition 0)
+
+unfoldable pub faultDue : State → ℕ → Due
+faultDue s condition =
+    pick (eqb (actionFor s condition) 1) (FaultCancel condition) (pick (eqb (actionFor s condition) 3) (FaultIgnore condition) (FaultAbandon condition))
+
+-- ---- the case that is due
+
+-- 6: "if count + 1 >= limit, fault 1; else .. same EOF again"
+unfoldable pub ackExpired : State → Bool → Due
+ackExpired s expired = pick expired (pick (leb (s .fixed .limit) (s .marks .count + 1)) (faultDue s 1) EofAgain) Nothing
+
+-- 7: "WaitingForFinished, unacknowledged, expired: fault 10"
+unfoldable pub checkExpired : State → Bool → Due
+checkExpired s expired = pick (s .fixed .head .unacknowledged) (pick expired (faultDue s 10) Nothing) Nothing
+
+-- 3 to 9, by the step
+abbrev pub dueAt : TransactionStep → State → Bool → Due
+dueAt Idle s expired = Nothing
+dueAt SendingMetadata s expired = Metadata
+dueAt SendingFileData s expired = Data
+dueAt SendingEof s expired = NoErrorEof
+dueAt WaitingForEofAck s expired = ackExpired s expired
+dueAt WaitingForFinished s expired = checkExpired s expired
+dueAt Closing s expired = Close
+
+-- 1: "Cancelled and EOF owed"
+unfoldable pub eofOwed : State → Bool
+eofOwed s = pick (s .marks .cancelled) (s .marks .owed) false
+
+-- 2: "Queue not empty .. The expiry flag isn't read."
+unfoldable pub dueOf : State → Bool → Due
+dueOf s expired = pick (eofOwed s) CancelEof (pick (ltb 0 (s .queue .count)) Repair (dueAt (s .step) s expired))
+
+-- ---- its PDU
+
+-- an EOF of n bytes: "size = progress, checksum over progress"; S for No error
+unfoldable pub eofFor : State → List ℕ → ℕ → ℕ → Eof
+eofFor s file condition n = record { condition = condition; sum = sumOf (s .fixed .checksum) (take n file); size = n }
+
+abbrev pub cancelEof : State → List ℕ → ℕ → Eof
+cancelEof s file condition = eofFor s file condition (s .file .progress)
+
+-- "one PDU of the oldest request"
+unfoldable pub repairOf : ℕ → SegmentRequest → Sending
+repairOf L r = pick (isMetadata r) MetadataPdu (FileData (r .start) (piece L r))
+
+-- "next min(L, S - progress) bytes"
+abbrev pub nextLength : State → ℕ
+nextLength s = min (s .fixed .segment) (s .fixed .size - s .file .progress)
+
+-- "acknowledged, emit ACK(Finished) with its condition"
+unfoldable pub closing : State → Sending
+closing s = pick (s .fixed .head .unacknowledged) NoPdu (AckFinished (s .marks .finished .condition))
+
+abbrev pub sendingOf : State → List ℕ → Due → Sending
+sendingOf s file CancelEof = EofPdu (cancelEof s file (s .marks .condition))
+sendingOf s file Repair = repairOf (s .fixed .segment) (oldest (s .queue))
+sendingOf s file Metadata = MetadataPdu
+sendingOf s file Data = FileData (s .file .progress) (nextLength s)
+sendingOf s file NoErrorEof = EofPdu (eofFor s file 0 (s .fixed .size))
+sendingOf s file EofAgain = EofPdu (s .file .eof)
+sendingOf s file (FaultCancel c) = EofPdu (cancelEof s file c)
+sendingOf s file (FaultIgnore c) = NoPdu
+sendingOf s file (FaultAbandon c) = NoPdu
+sendingOf s file Close = closing s
+sendingOf s file Nothing = NoPdu
+
+-- "closure 1 (written 0 in acknowledged mode)"
+unfoldable pub closureBit : State → Bool
+closureBit s = pick (s .fixed .head .unacknowledged) (s .fixed .closure) false
+
+-- what it says: the file's bytes are the lent ones; "status Active" is 1
+abbrev pub metadataOf : State → Said
+metadataOf s = metadata (closureBit s) (s .fixed .checksum) (s .fixed .size) (sourceName (s .names)) (destinationName (s .names))
+
+abbrev pub bytesFor : State → List ℕ → Sending → List ℕ
+bytesFor s file NoPdu = []
+bytesFor s file MetadataPdu = encode (s .fixed .head) (metadataOf s)
+bytesFor s file (FileData o n) = encode (s .fixed .head) (fileData o (take n (drop o file)))
+bytesFor s file (EofPdu e) = encode (s .fixed .head) (eof (e .condition) (e .sum) (e .size))
+bytesFor s file (AckFinished c) = encode (s .fixed .head) (ackFinished c 1)
+
+-- ---- the state after it
+
+-- an EOF left and is kept; acknowledged: "count 0, .. WaitingForEofAck"
+abbrev pub awaiting : State → Eof → State
+awaiting s e = toStep (withMarks (withFile s (keeping (s .file) e)) (counted (settled (s .marks)) 0)) WaitingForEofAck
+
+-- 1: "Unacknowledged: Idle .. Acknowledged: count 0, timer restarted, WaitingForEofAck"
+unfoldable pub afterCancelEof : State → Eof → State
+afterCancelEof s e = pick (s .fixed .head .unacknowledged) (idle (s .number)) (awaiting s e)
+
+-- 3: "then SendingFileData, or SendingEof if S = 0"
+unfoldable pub afterMetadata : State → State
+afterMetadata s = pick (eqb (s .fixed .size) 0) (toStep s SendingEof) (toStep s SendingFileData)
+
+-- 4: "at S, SendingEof"
+abbrev pub onward : State → ℕ → State
+onward s p = withFile s (progressed (s .file) p)
+
+unfoldable pub afterData : State → State
+afterData s =
+    pick (eqb (s .file .progress + nextLength s) (s .fixed .size))
+    (toStep (onward s (s .file .progress + nextLength s)) SendingEof)
+    (onward s (s .file .progress + nextLength s))
+
+-- 5
+unfoldable pub afterEof : State → Eof → State
+afterEof s e =
+    pick (s .fixed .head .unacknowledged)
+    (pick (s .fixed .closure) (toStep (withFile s (keeping (s .file) e)) WaitingForFinished) (idle (s .number)))
+    (awaiting s e)
+
+-- "Cancel marks the transaction, empties the queue and does item 1 in the same step"
+abbrev pub faultMarked : State → ℕ → State
+faultMarked s c = withMarks (withQueue s emptyQueue) (marked (s .marks) c true)
+
+abbrev pub afterOf : State → List ℕ → Due → State
+afterOf s file CancelEof = afterCancelEof s (cancelEof s file (s .marks .condition))
+afterOf s file Repair = withQueue s (served (s .fixed .segment) (s .queue))
+afterOf s file Metadata = afterMetadata s
+afterOf s file Data = afterData s
+afterOf s file NoErrorEof = afterEof s (eofFor s file 0 (s .fixed .size))
+afterOf s file EofAgain = withMarks s (counted (s .marks) (s .marks .count + 1))
+afterOf s file (FaultCancel c) = afterCancelEof (faultMarked s c) (cancelEof s file c)
+afterOf s file (FaultIgnore c) = withMarks s (counted (s .marks) 0)
+afterOf s file (FaultAbandon c) = idle (s .number)
+afterOf s file Close = idle (s .number)
+afterOf s file Nothing = s
+
+-- ---- its events
+
+abbrev pub idOf : State → TransactionId
+idOf s = (s .fixed .head .source, s .fixed .head .number)
+
+abbrev pub events : State → Bool → Bool → FaultEvent → FinishedEvent → TimerEvent → Events
+events s t e f d k = record { id = idOf s; transaction = t; eofsent = e; fault = f; finished = d; timer = k }
+
+abbrev pub quiet : State → Events
+quiet s = events s false false NoFault NotFinished NoTimer
+
+-- "Each EOF gives an EOF-sent event; this and the finished events of 5 and 8 come only if the configuration's flag is set."
+unfoldable pub finishedIf : State → FinishedParams → FinishedEvent
+finishedIf s p = pick (s .fixed .finished) (Finished p) NotFinished
+
+-- the ack timer of an EOF that waits for its ACK
+unfoldable pub ackTimer : State → TimerEvent
+ackTimer s = pick (s .fixed .head .unacknowledged) NoTimer AckTimer
+
+-- 5: "with closure .. start check timer, without it a finished event"
+unfoldable pub eofTimer : State → TimerEvent
+eofTimer s = pick (s .fixed .head .unacknowledged) (pick (s .fixed .closure) CheckTimer NoTimer) AckTimer
+
+-- "(NoError, Complete, Unreported)"
+abbrev pub unreported : FinishedParams
+unreported = record { condition = 0; delivery = 0; status = 3 }
+
+unfoldable pub eofFinished : State → FinishedEvent
+eofFinished s = pick (s .fixed .head .unacknowledged) (pick (s .fixed .closure) NotFinished (finishedIf s unreported)) NotFinished
+
+abbrev pub eventsOf : State → Due → Events
+eventsOf s CancelEof = events s false (s .fixed .eofsent) NoFault NotFinished (ackTimer s)
+eventsOf s Repair = quiet s
+eventsOf s Metadata = events s true false NoFault NotFinished NoTimer
+eventsOf s Data = quiet s
+eventsOf s NoErrorEof = events s false (s .fixed .eofsent) NoFault (eofFinished s) (eofTimer s)
+eventsOf s EofAgain = events s false (s .fixed .eofsent) NoFault NotFinished AckTimer
+eventsOf s (FaultCancel c) = events s false (s .fixed .eofsent) (Fault 1 c (s .file .progress)) NotFinished (ackTimer s)
+eventsOf s (FaultIgnore c) = events s false false (Fault 3 c (s .file .progress)) NotFinished NoTimer
+eventsOf s (FaultAbandon c) = events s false false (Fault 4 c (s .file .progress)) NotFinished NoTimer
+eventsOf s Close = events s false false NoFault (finishedIf s (s .marks .finished)) NoTimer
+eventsOf s Nothing = quiet s
+
+-- ---- the call
+
+-- 30 FileChanged: "not Idle, lent length not S"
+unfoldable pub changed : State → ℕ → Bool
+changed s lent = pick (isIdle (s .step)) false (pick (eqb lent (s .fixed .size)) false true)
+
+abbrev pub refusedStep : State → Refusal → Stepped
+refusedStep s r = record { answer = Refused r; length = 0; events = quiet s; state = s }
+
+abbrev pub bytesDue : State → List ℕ → Bool → List ℕ
+bytesDue s file expired = bytesFor s file (sendingOf s file (dueOf s expired))
+
+-- 31 OutTooSmall: "the PDU due is longer than the out buffer"
+unfoldable pub made : State → List ℕ → Due → ℕ → Stepped
+made s file d room =
+    let n = length (bytesFor s file (sendingOf s file d)) in
+    pick (ltb room n) (refusedStep s OutTooSmall) (record { answer = Accepted; length = n; events = eventsOf s d; state = afterOf s file d })
+
+-- over the lent file, the expiry flag and the room of the out buffer
+unfoldable pub stepSpec : State → List ℕ → Bool → ℕ → Stepped
+stepSpec s file expired room = pick (changed s (length file)) (refusedStep s FileChanged) (made s file (dueOf s expired) room)
+
+-- "After an accepted step the out buffer holds the PDU in front and its old bytes behind."
+unfoldable pub stepBytes : State → List ℕ → Bool → List ℕ → List ℕ
+stepBytes s file expired out = pick (changed s (length file)) out (inFront (bytesDue s file expired) out)
