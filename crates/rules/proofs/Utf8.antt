@@ -1,7 +1,7 @@
 -- The test says yes exactly to what the grammar derives, by the ranges still wanted: what is left of the bytes fits them, and characters
 -- follow. The table's first ranges rise, so a byte begins at most one form, and `begun` finds it.
 -- Assumes nothing.
-use mathlib.Core.Path.{_≡_, refl, sym, ap, subst, _∙_}
+use mathlib.Core.Path.{_≡_, refl, ap, subst, _∙_}
 use mathlib.Core.Bool.{Bool, true, false, false≢true}
 use mathlib.Core.List.{List, [], _∷_, _++_}
 use Prim.Native.Nat.{ℕ, suc, _≤_}
@@ -10,7 +10,7 @@ use borrow.Author.Tests.{lt-ltb, le-ltb, ltb-false}
 use lib.Dec.{ltb}
 use Rattle.basis.specs.Pick.{pick}
 use Rattle.basis.proofs.Pick.{cases}
-use Rattle.rules.specs.Utf8.{Range, _to_, forms, In, Fits, end, next, OneOf, here, there, Utf8, none, char, within, Due, wants, broken, begun, onward, dueAfter, complete, isUtf8, Utf8Exactly}
+use Rattle.rules.specs.Utf8.{Range, _to_, forms, In, Fits, end, next, OneOf, here, there, Utf8, none, char, within, Due, wants, broken, begun, dueAfter, complete, isUtf8, Utf8Exactly, Utf8Cases}
 
 -- ---- the test of a range
 
@@ -81,24 +81,18 @@ never : {A : Type 0} (s : List ℕ) → complete (dueAfter broken s) ≡ true �
 never [] e = absurd (false≢true e)
 never (b ∷ s) e = never s e
 
-begins : (b : ℕ) (s : List ℕ) (fs : List (List Range)) → ((rs : List Range) → complete (dueAfter (wants rs) s) ≡ true → Rest rs s)
-    → complete (dueAfter (begun b fs) s) ≡ true → (f : List Range) × OneOf f fs × Rest f (b ∷ s)
-begins b s [] k e = never s e
-begins b s ([] ∷ fs) k e =
-    let g = begins b s fs k e in
-    (g .0, there (g .1), g .2)
-begins b s ((r ∷ rs) ∷ fs) k e =
-    cases (λ (d : Due). complete (dueAfter d s) ≡ true → (f : List Range) × OneOf f ((r ∷ rs) ∷ fs) × Rest f (b ∷ s))
-    (within r b) (wants rs) (begun b fs)
-    (λ p e. (r ∷ rs, here, (within-in r b p, k rs e)))
-    (λ p e. let g = begins b s fs k e in (g .0, there (g .1), g .2)) e
+begins : (b : ℕ) (s : List ℕ) (fs : List (List Range)) → ((f : List Range) → OneOf f fs → OneOf f forms)
+    → ((rs : List Range) → complete (dueAfter (wants rs) s) ≡ true → Rest rs s) → complete (dueAfter (begun b fs) s) ≡ true → Utf8 (b ∷ s)
+begins b s [] among k e = never s e
+begins b s ([] ∷ fs) among k e = begins b s fs (λ f o. among f (there o)) k e
+begins b s ((r ∷ rs) ∷ fs) among k e =
+    cases (λ (d : Due). complete (dueAfter d s) ≡ true → Utf8 (b ∷ s)) (within r b) (wants rs) (begun b fs)
+    (λ p e. derived (r ∷ rs) (b ∷ s) (among (r ∷ rs) here) (within-in r b p, k rs e)) (λ p e. begins b s fs (λ f o. among f (there o)) k e) e
 
 left : (s : List ℕ) (rs : List Range) → complete (dueAfter (wants rs) s) ≡ true → Rest rs s
 left [] [] e = none
 left [] (r ∷ rs) e = absurd (false≢true e)
-left (b ∷ s) [] e =
-    let g = begins b s forms (left s) e in
-    derived (g .0) (b ∷ s) (g .1) (g .2)
+left (b ∷ s) [] e = begins b s forms (λ f o. o) (left s) e
 left (b ∷ s) (r ∷ rs) e =
     cases (λ (d : Due). complete (dueAfter d s) ≡ true → Rest (r ∷ rs) (b ∷ s)) (within r b) (wants rs) broken
     (λ p e. (within-in r b p, left s rs e)) (λ p e. never s e) e
@@ -106,3 +100,7 @@ left (b ∷ s) (r ∷ rs) e =
 pub utf8-exactly : Utf8Exactly
 unfolding isUtf8
 utf8-exactly s = (left s [], taken)
+
+pub utf8-cases : Utf8Cases
+unfolding isUtf8
+utf8-cases = (refl, refl)
