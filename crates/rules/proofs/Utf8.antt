@@ -43,6 +43,9 @@ begun-it b lo hi n rs _ (there {g = (lo′ to hi′) ∷ rs′} {fs = fs} o) i h
     let k = begun-it b lo hi (suc hi′) rs fs o i (h .2) in
     (omega arith, rw (le-ltb b lo′ (omega arith), lt-ltb hi′ b (k .0)) (k .1))
 
+pub begun-form : {b lo hi : ℕ} {rs : List Range} → OneOf ((lo to hi) ∷ rs) forms → lo ≤ b → b ≤ hi → begun b forms ≡ wants rs
+begun-form {b} {lo} {hi} {rs} o l u = begun-it b lo hi 0 rs forms o (l, u) forms-rise .1
+
 wanted : {rs : List Range} {c : List ℕ} → Fits rs c → (s : List ℕ) → dueAfter (wants rs) (c ++ s) ≡ dueAfter (wants []) s
 wanted end s = refl
 wanted (next {r = r} {rs = rs} {b = b} {s = c} i f) s =
@@ -50,8 +53,7 @@ wanted (next {r = r} {rs = rs} {b = b} {s = c} i f) s =
 
 one : {f : List Range} {c : List ℕ} → OneOf f forms → Fits f c → (s : List ℕ) → dueAfter (wants []) (c ++ s) ≡ dueAfter (wants []) s
 one o end s = refl
-one o (next {r = lo to hi} {rs = rs} {b = b} {s = c} i f) s =
-    ap (λ (d : Due). dueAfter d (c ++ s)) (begun-it b lo hi 0 rs forms o i forms-rise .1) ∙ wanted f s
+one o (next {r = lo to hi} {s = c} i f) s = ap (λ (d : Due). dueAfter d (c ++ s)) (begun-form o (i .0) (i .1)) ∙ wanted f s
 
 taken : {s : List ℕ} → Utf8 s → complete (dueAfter (wants []) s) ≡ true
 taken none = refl
