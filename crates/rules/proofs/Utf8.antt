@@ -3,7 +3,7 @@
 -- Assumes nothing.
 use mathlib.Core.Path.{_≡_, refl, ap, subst, _∙_}
 use mathlib.Core.Bool.{Bool, true, false, false≢true}
-use mathlib.Core.List.{List, [], _∷_, _++_}
+use mathlib.Core.List.{List, [], _∷_, _++_, flatMap}
 use Prim.Native.Nat.{ℕ, suc, _≤_}
 use native.Mathlib.Omega.{arith}
 use borrow.Author.Tests.{lt-ltb, le-ltb, ltb-false}
@@ -104,5 +104,5 @@ unfolding isUtf8
 utf8-exactly s = (left s [], taken)
 
 pub utf8-cases : Utf8Cases
-unfolding isUtf8
-utf8-cases = (refl, refl)
+unfolding isUtf8 flatMap
+utf8-cases = (refl, refl, refl)

@@ -3,7 +3,7 @@
 use mathlib.Core.Path.{_≡_}
 use mathlib.Core.Logic.{_↔_}
 use mathlib.Core.Bool.{Bool, true, false}
-use mathlib.Core.List.{List, [], _∷_, _++_, map}
+use mathlib.Core.List.{List, [], _∷_, _++_, map, flatMap}
 use Prim.Native.Nat.{ℕ, _≤_}
 use lib.Dec.{ltb}
 use Rattle.basis.specs.Pick.{pick}
@@ -113,14 +113,24 @@ illFormed =
     ∷ (0xC1 ∷ 0xBF ∷ []) ∷ (0xE0 ∷ 0x9F ∷ 0xBF ∷ []) ∷ (0xF0 ∷ 0x8F ∷ 0xBF ∷ 0xBF ∷ [])
     -- the last surrogate; the first above U+10FFFF, two ways
     ∷ (0xED ∷ 0xBF ∷ 0xBF ∷ []) ∷ (0xF4 ∷ 0x90 ∷ 0x80 ∷ 0x80 ∷ []) ∷ (0xF5 ∷ 0x80 ∷ 0x80 ∷ 0x80 ∷ [])
-    -- a tail that begins nothing; no tail where one is due, from below and from above
+    -- what begins no character
     ∷ (0x80 ∷ []) ∷ (0xBF ∷ []) ∷ (0xFF ∷ [])
-    ∷ (0xC2 ∷ 0x7F ∷ []) ∷ (0xC2 ∷ 0xC0 ∷ []) ∷ (0xE0 ∷ 0xC0 ∷ 0x80 ∷ []) ∷ (0xED ∷ 0x7F ∷ 0x80 ∷ [])
-    ∷ (0xF0 ∷ 0xC0 ∷ 0x80 ∷ 0x80 ∷ []) ∷ (0xF4 ∷ 0x7F ∷ 0x80 ∷ 0x80 ∷ [])
     -- cut short; one tail too many
     ∷ (0xC2 ∷ []) ∷ (0xE1 ∷ 0x80 ∷ []) ∷ (0xF1 ∷ 0x80 ∷ 0x80 ∷ []) ∷ (0xC2 ∷ 0x80 ∷ 0x80 ∷ [])
     ∷ []
 
--- PROMISE utf8-cases: the test takes each of the one list and none of the other.
+-- x in place of one byte, at each place; no tail where one is due, from below and from above
+abbrev pub withOne : ℕ → List ℕ → List (List ℕ)
+withOne x [] = []
+withOne x (b ∷ s) = (x ∷ s) ∷ map (λ t. b ∷ t) (withOne x s)
+
+abbrev pub tailless : List ℕ → List (List ℕ)
+tailless [] = []
+tailless (b ∷ s) = map (λ t. b ∷ t) (withOne 0x7F s ++ withOne 0xC0 s)
+
+abbrev pub each : Bool → List (List ℕ) → Type 0
+each a l = map isUtf8 l ≡ map (λ s. a) l
+
+-- PROMISE utf8-cases: the test takes all of wellFormed, and nothing of illFormed or of wellFormed with a tail spoilt.
 abbrev pub Utf8Cases : Type 0
-Utf8Cases = (map isUtf8 wellFormed ≡ map (λ s. true) wellFormed) × (map isUtf8 illFormed ≡ map (λ s. false) illFormed)
+Utf8Cases = each true wellFormed × each false illFormed × each false (flatMap tailless wellFormed)

@@ -1,4 +1,4 @@
--- One byte further.
+-- One byte further: a turn of the loop, and the form that a first byte begins, or none.
 -- Assumes nothing.
 use mathlib.Core.Path.{_≡_, sym}
 use mathlib.Core.List.{List, _∷_}
