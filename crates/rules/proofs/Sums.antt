@@ -1,9 +1,9 @@
 -- Sums taken piece by piece, by induction on the first piece; that each fits its field; and a polynomial reversed twice.
 -- Assumes nothing.
 use mathlib.Core.Path.{_≡_, refl, sym, ap, _∙_}
-use mathlib.Core.Bool.{Bool, true, false}
+use mathlib.Core.Bool.{Bool}
 use mathlib.Core.List.{List, [], _∷_, _++_}
-use Prim.Native.Nat.{ℕ, zero, suc, _+_, _-_, _*_, _/_, _%_, _^_, _<_}
+use Prim.Native.Nat.{ℕ, zero, suc, _+_, _*_, _/_, _%_, _^_, _<_}
 use native.Mathlib.Nat.{zero-add, suc-add, add-suc, add-zero, mul-le-mul-right, two-pow-succ}
 use native.Mathlib.Omega.{arith}
 use lib.Bits.{bitXor, xor-lt}
@@ -71,6 +71,7 @@ piecewise = (modular-append, places, crc-append, crc16-append)
 
 -- what was behind moves up
 behind : (n p r : ℕ) → reversed n p r ≡ r * 2 ^ n + reversed n p 0
+unfolding reversed
 behind zero p r = omega arith
 behind (suc n) p r =
     let i = behind n (p / 2) (r * 2 + p % 2) in
@@ -79,9 +80,11 @@ behind (suc n) p r =
 
 -- the lowest bit becomes the highest
 lowest : (n p : ℕ) → reversed (suc n) p 0 ≡ p % 2 * 2 ^ n + reversed n (p / 2) 0
+unfolding reversed
 lowest n p = behind n (p / 2) (0 * 2 + p % 2) ∙ omega arith
 
 reversed-lt : (n p : ℕ) → reversed n p 0 < 2 ^ n
+unfolding reversed
 reversed-lt zero p = omega arith
 reversed-lt (suc n) p =
     let i = reversed-lt n (p / 2) in
@@ -90,6 +93,7 @@ reversed-lt (suc n) p =
 
 -- and the highest the lowest
 highest : (n b y : ℕ) → b < 2 → y < 2 ^ n → reversed (suc n) (b * 2 ^ n + y) 0 ≡ reversed n y 0 * 2 + b
+unfolding reversed
 highest zero b y h k = omega arith
 highest (suc n) b y h k =
     let e : (b * 2 ^ suc n + y) / 2 ≡ b * 2 ^ n + y / 2 = rw (two-pow-succ n) (omega arith) in
@@ -97,12 +101,17 @@ highest (suc n) b y h k =
     let g : y / 2 < 2 ^ n = omega (arith, two-pow-succ n) in
     lowest (suc n) (b * 2 ^ suc n + y) ∙ rw (e, f, highest n b (y / 2) h g, lowest n y, two-pow-succ n) (omega arith)
 
-pub twice : (n p : ℕ) → p < 2 ^ n → reversed n (reversed n p 0) 0 ≡ p
+twice : (n p : ℕ) → p < 2 ^ n → reversed n (reversed n p 0) 0 ≡ p
+unfolding reversed
 twice zero p h = omega arith
 twice (suc n) p h =
     let m : p % 2 < 2 = omega arith in
     let g : p / 2 < 2 ^ n = omega (arith, two-pow-succ n) in
     ap (λ (v : ℕ). reversed (suc n) v 0) (lowest n p) ∙ highest n (p % 2) (reversed n (p / 2) 0) m (reversed-lt n (p / 2)) ∙ rw (twice n (p / 2) g) (omega arith)
+
+pub crc32-reversed : (p : ℕ) (s : List ℕ) → p < 2 ^ 32 → bitXor (crcFrom p 0xFFFFFFFF s) 0xFFFFFFFF ≡ crc32 (reversed 32 p 0) s
+unfolding crc32
+crc32-reversed p s h = rw (twice 32 p h)
 
 -- ---- bounds
 

@@ -43,5 +43,5 @@ cases =
     ∷ []
 
 pub published : Each cases
-unfolding checksumOf modular more crc32 crcByte crc16 crc16Byte
+unfolding checksumOf modular more reversed crc32 crcByte crc16 crc16Byte
 published = (refl, (refl, (refl, (refl, (refl, (refl, (refl, (refl, tt))))))))
