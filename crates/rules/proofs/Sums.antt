@@ -13,7 +13,7 @@ use Rattle.basis.specs.Pick.{pick}
 use Rattle.basis.specs.Bytes.{Bytes}
 use Rattle.basis.proofs.Pick.{cases}
 use Rattle.rules.specs.declared.Checksum.{Checksum}
-use Rattle.rules.specs.Checksum.{word, more, modularFrom, modular, atPlace, modularAt, reversed, crcBit, crcBits, crcByte, crcFrom, crc32, castagnoli, ethernet, checksumOf, sumIn, sumOf, crc16Bit, crc16Bits, crc16Byte, crc16From, crc16, Piecewise}
+use Rattle.rules.specs.Checksum.{word, more, modularFrom, modular, atPlace, modularAt, reversed, crcBit, crcBits, crcByte, crcFrom, crc32, checksumOf, sumIn, sumOf, crc16Bit, crc16Bits, crc16Byte, crc16From, crc16, Piecewise}
 
 -- ---- piece by piece
 
@@ -139,7 +139,7 @@ crc16From-lt c (b ∷ s) h = crc16From-lt (crc16Byte c b) s (crc16Byte-lt c b)
 -- a CRC-16 fits its two bytes
 pub crc16-lt : (s : List ℕ) → crc16 s < 65536
 unfolding crc16
-crc16-lt s = crc16From-lt 0xFFFF s (omega arith)
+crc16-lt s = crc16From-lt _ s (omega arith)
 
 crcBit-lt : (p c : ℕ) → p < 2 ^ 32 → c < 2 ^ 32 → crcBit p c < 2 ^ 32
 crcBit-lt p c h k =
@@ -170,10 +170,10 @@ more-lt sum w = omega arith
 
 modularFrom-lt : (sum : ℕ) (s : List ℕ) → sum < 2 ^ 32 → modularFrom sum s < 2 ^ 32
 modularFrom-lt sum [] h = h
-modularFrom-lt sum (a ∷ []) h = more-lt sum (word a 0 0 0)
-modularFrom-lt sum (a ∷ b ∷ []) h = more-lt sum (word a b 0 0)
-modularFrom-lt sum (a ∷ b ∷ c ∷ []) h = more-lt sum (word a b c 0)
-modularFrom-lt sum (a ∷ b ∷ c ∷ d ∷ s) h = modularFrom-lt (more sum (word a b c d)) s (more-lt sum (word a b c d))
+modularFrom-lt sum (a ∷ []) h = more-lt _ _
+modularFrom-lt sum (a ∷ b ∷ []) h = more-lt _ _
+modularFrom-lt sum (a ∷ b ∷ c ∷ []) h = more-lt _ _
+modularFrom-lt sum (a ∷ b ∷ c ∷ d ∷ s) h = modularFrom-lt (more sum (word a b c d)) s (more-lt _ _)
 
 modular-lt : (s : List ℕ) → modular s < 2 ^ 32
 unfolding modular
@@ -185,6 +185,6 @@ unfolding sumOf checksumOf
 sum-lt type s h =
     let P : Checksum → Type 0 = λ (x : Checksum). sumIn x < 2 ^ 32 in
     cases P (eqb type 0) _ _ (λ e. modular-lt s)
-    (λ e. cases P (eqb type 2) _ _ (λ e. crc32-lt castagnoli s h)
-    (λ e. cases P (eqb type 3) _ _ (λ e. crc32-lt ethernet s h)
+    (λ e. cases P (eqb type 2) _ _ (λ e. crc32-lt _ s h)
+    (λ e. cases P (eqb type 3) _ _ (λ e. crc32-lt _ s h)
     (λ e. cases P (eqb type 15) _ _ (λ e. omega arith) (λ e. omega arith))))
