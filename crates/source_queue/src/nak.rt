@@ -51,7 +51,7 @@ fn pair_width(large: bool) -> usize
 }
 
 // The place of the next pair, or the end.
-fn next_pair(n: usize, large: bool, at: usize) -> usize
+pub fn next_pair(n: usize, large: bool, at: usize) -> usize
     ensures { λ r. ⌜ r ≡ min (at + F large + F large) n ⌝ }
 {
     if n <= at {
