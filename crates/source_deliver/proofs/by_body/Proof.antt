@@ -1,3 +1,5 @@
+-- Each arm is the definition's clause.
+-- Assumes nothing.
 use borrow.Author.Needs.{needs}
 use Rattle.source_deliver.proofs.by_body.Statement.{statement}
 use Rattle.source_deliver.proofs.by_body.Tie as tie
@@ -32,15 +34,15 @@ heard-requires c κs = search needs
 
 -- src/lib.rt:149:1
 returns : tie.Need-returns
-returns c = ?
+returns c = rw (c .refused .ensures, c .before .enum-told .given .1)
 
 -- src/lib.rt:149:1
 returns-2 : tie.Need-returns-2
-returns-2 c = ?
+returns-2 c = rw (c .refused2 .ensures, c .before .enum-told2 .given .1)
 
 -- src/lib.rt:149:1
 returns-3 : tie.Need-returns-3
-returns-3 c = ?
+returns-3 c = rw (c .heard .ensures, c .before .before .b .given .1)
 
 pub by-body-spec : {M : Type 1} → statement M
 by-body-spec =

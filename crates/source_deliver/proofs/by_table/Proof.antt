@@ -1,3 +1,5 @@
+-- Both callees give what their definitions say.
+-- Assumes nothing.
 use borrow.Author.Needs.{needs}
 use Rattle.source_deliver.proofs.by_table.Statement.{statement}
 use Rattle.source_deliver.proofs.by_table.Tie as tie
@@ -16,7 +18,7 @@ by-verdict-requires c κs = search needs
 
 -- src/lib.rt:99:1
 returns : tie.Need-returns
-returns c = ?
+returns c = rw (c .by-verdict .ensures, c .before .verdict-of .ensures)
 
 pub by-table-spec : {M : Type 1} → statement M
 by-table-spec = tie.close (tie.spec verdict-of-requires by-verdict-requires returns)

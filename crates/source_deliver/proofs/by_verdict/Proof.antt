@@ -1,3 +1,8 @@
+-- Each arm is the definition's clause.
+-- Assumes nothing.
+use mathlib.Core.Path.{ap}
+use Rattle.rules.specs.Deliver.{nakOf}
+use Rattle.source_deliver.proofs.Requests.{asks}
 use borrow.Author.Needs.{needs}
 use Rattle.source_deliver.proofs.by_verdict.Statement.{statement}
 use Rattle.source_deliver.proofs.by_verdict.Tie as tie
@@ -51,19 +56,20 @@ accepted-requires-2 c κs = search needs
 
 -- src/lib.rt:88:1
 returns : tie.Need-returns
-returns c = ?
+returns c = let a = c .before .before .before .before .before .args in
+    rw (c .handle-nak-pdu .ensures, c .before .asked-count .ensures, c .before .before .enum-told .given .1) (ap (nakOf (a .s)) (asks (a .bytes .now) (a .f) (a .m)))
 
 -- src/lib.rt:88:1
 returns-2 : tie.Need-returns-2
-returns-2 c = ?
+returns-2 c = rw (c .accepted .ensures, c .before .moved-by .ensures, c .before .before .enum-told2 .given .1)
 
 -- src/lib.rt:88:1
 returns-3 : tie.Need-returns-3
-returns-3 c = ?
+returns-3 c = rw (c .refused .ensures, c .before .enum-told3 .given .1)
 
 -- src/lib.rt:88:1
 returns-4 : tie.Need-returns-4
-returns-4 c = ?
+returns-4 c = rw (c .accepted2 .ensures, c .before .enum-told4 .given .1)
 
 pub by-verdict-spec : {M : Type 1} → statement M
 by-verdict-spec =

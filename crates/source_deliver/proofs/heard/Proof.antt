@@ -1,3 +1,7 @@
+-- The branch that the code took is the definition's; what each callee gave is its definition.
+-- Assumes nothing.
+use Rattle.basis.proofs.Pick.{picks, told}
+use Rattle.rules.specs.Deliver.{heard}
 use borrow.Author.Needs.{needs}
 use Rattle.source_deliver.proofs.heard.Statement.{statement}
 use Rattle.source_deliver.proofs.heard.Tie as tie
@@ -18,7 +22,8 @@ by-table-requires c κs = search needs
 
 -- src/lib.rt:141:9
 returns : tie.Need-returns
-returns c = ?
+unfolding heard
+returns c = rw (c .by-table .ensures) (search (picks, told) depth 8)
 
 -- src/lib.rt:143:8
 same-transaction-requires : tie.Need-same-transaction-requires
@@ -30,7 +35,8 @@ by-table-requires-2 c κs = search needs
 
 -- src/lib.rt:144:9
 returns-2 : tie.Need-returns-2
-returns-2 c = ?
+unfolding heard
+returns-2 c = rw (c .by-table2 .ensures) (search (picks, told) depth 8)
 
 -- src/lib.rt:146:5
 refused-requires : tie.Need-refused-requires
@@ -38,7 +44,8 @@ refused-requires c κs = search needs
 
 -- src/lib.rt:136:1
 returns-3 : tie.Need-returns-3
-returns-3 c = ?
+unfolding heard
+returns-3 c = rw (c .refused .ensures) (search (picks, told) depth 8)
 
 pub heard-spec : {M : Type 1} → statement M
 heard-spec =

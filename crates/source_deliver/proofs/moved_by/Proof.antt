@@ -1,3 +1,5 @@
+-- Each arm is the definition's clause.
+-- Assumes nothing.
 use borrow.Author.Needs.{needs}
 use Rattle.source_deliver.proofs.moved_by.Statement.{statement}
 use Rattle.source_deliver.proofs.moved_by.Tie as tie
@@ -32,19 +34,19 @@ enum-told-3 c = search needs
 
 -- src/lib.rt:63:1
 returns : tie.Need-returns
-returns c = ?
+returns c = rw (c .handle-finished-pdu .ensures, c .before .before .m .given .1)
 
 -- src/lib.rt:63:1
 returns-2 : tie.Need-returns-2
-returns-2 c = ?
+returns-2 c = rw (c .handle-ack-pdu .ensures, c .before .enum-told .given .1)
 
 -- src/lib.rt:63:1
 returns-3 : tie.Need-returns-3
-returns-3 c = ?
+returns-3 c = rw (c .enum-told2 .given .1)
 
 -- src/lib.rt:63:1
 returns-4 : tie.Need-returns-4
-returns-4 c = ?
+returns-4 c = rw (c .enum-told3 .given .1)
 
 pub moved-by-spec : {M : Type 1} → statement M
 moved-by-spec =

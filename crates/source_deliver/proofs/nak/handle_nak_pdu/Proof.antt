@@ -1,7 +1,8 @@
 -- The requests from a place that stops at the end are those from the place itself.
 -- Assumes nothing.
-use Rattle.rules.specs.Deliver.{requestsIn}
-use Rattle.source_queue.proofs.Requests.{at-end}
+use mathlib.Core.Path.{ap}
+use Rattle.rules.specs.Deliver.{nakOf}
+use Rattle.source_deliver.proofs.Requests.{stops}
 use borrow.Author.Needs.{needs}
 use Rattle.source_deliver.proofs.nak.handle_nak_pdu.Statement.{statement}
 use Rattle.source_deliver.proofs.nak.handle_nak_pdu.Tie as tie
@@ -20,9 +21,8 @@ handle-retransmission-requires c κs = search needs
 
 -- src/nak.rt:61:1
 returns : tie.Need-returns
-unfolding requestsIn
 returns c = let a = c .before .before .before .args in
-    rw (c .handle-retransmission .ensures, c .before .first-pair .ensures, at-end (a .f .head .large) (a .bytes .now) (a .n) _)
+    rw (c .handle-retransmission .ensures, c .before .first-pair .ensures) (ap (nakOf (a .s)) (stops (a .bytes .now) (a .f) (a .n)))
 
 pub handle-nak-pdu-spec : {M : Type 1} → statement M
 handle-nak-pdu-spec =
