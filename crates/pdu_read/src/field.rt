@@ -1,8 +1,9 @@
-// What all readers take: a byte or a part that may lie past the end, the width of a size, a condition.
+// What all readers take: a byte, a part or a number that may lie past the end, the width of a size, a condition.
 use basis::lesser;
+use basis::num_at;
 ghost use mathlib.Core.Path.{_≡_};
-ghost use Prim.Native.Nat.{_-_, _≤_};
-ghost use Rattle.basis.specs.Bytes.{byte, part};
+ghost use Prim.Native.Nat.{_-_, _*_, _<_, _≤_, _^_};
+ghost use Rattle.basis.specs.Bytes.{byte, part, numAt};
 ghost use Rattle.rules.specs.Numbers.{F};
 ghost use Rattle.rules.specs.Reading.{reserved};
 
@@ -25,6 +26,14 @@ pub fn part_of(s: &[u8], at: usize, w: usize) -> &[u8]
     }
     let e = at + lesser(w, s.len() - at);
     &s[at..e]
+}
+
+// The number in w bytes from a place on.
+pub fn num_of(s: &[u8], at: usize, w: usize) -> u64
+    requires { ⌜ w ≤ 8 ⌝ }
+    ensures { λ r. ⌜ (r ≡ numAt (now (s .entry)) at w) × (r < 2 ^ (8 * w)) ⌝ }
+{
+    num_at(s, at, w)
 }
 
 // From a up to b; 0 if b lies before a.

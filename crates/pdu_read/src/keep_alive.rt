@@ -1,6 +1,6 @@
 // 12 Keep Alive: progress F.
+use crate::field::num_of;
 use crate::field::size_width;
-use basis::num_at;
 use rules::Body;
 use rules::Meaning;
 ghost use mathlib.Core.Path.{_≡_};
@@ -13,6 +13,6 @@ pub fn keep_alive_in(large: bool, b: &[u8]) -> Body
     if b.len() != 1 + f {
         return Body::Malformed;
     }
-    let progress = num_at(b, 1, f);
+    let progress = num_of(b, 1, f);
     Body::Means(Meaning::KeepAlive(progress))
 }

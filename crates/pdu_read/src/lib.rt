@@ -1,6 +1,7 @@
 // What a delivery says: the header and the bodies of the PDUs that a sender reads, each reader equal to its definition in `rules`.
 // Every function takes any bytes at all; a PDU that document 01's layouts don't know is answered by Malformed.
 mod field;
+pub mod header;
 mod finished;
 mod ack;
 mod keep_alive;

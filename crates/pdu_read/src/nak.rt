@@ -1,6 +1,6 @@
 // 8 NAK: scope start, scope end, then pairs start, end, F bytes each; the scope is not judged.
+use crate::field::num_of;
 use crate::field::size_width;
-use basis::num_at;
 use rules::Body;
 use rules::Meaning;
 use rules::SegmentRequest;
@@ -36,7 +36,7 @@ fn size_behind(s: &[u8], large: bool, at: usize) -> u64
     if s.len() - at <= f {
         return 0;
     }
-    num_at(s, at + f, f)
+    num_of(s, at + f, f)
 }
 
 // One request, from any place of the delivered bytes.
@@ -44,7 +44,7 @@ pub fn request_at(s: &[u8], large: bool, at: usize) -> SegmentRequest
     ensures { λ r. ⌜ r ≡ requestAt large (now (s .entry)) at ⌝ }
 {
     let f = size_width(large);
-    let start = num_at(s, at, f);
+    let start = num_of(s, at, f);
     let end = size_behind(s, large, at);
     SegmentRequest { start, end }
 }

@@ -1,11 +1,10 @@
-use Rattle.pdu_read.proofs.Fields.{all-counts}
 use Rattle.rules.specs.Reading.{requestAt}
 use borrow.Author.Needs.{needs}
 use Rattle.pdu_read.proofs.nak.request_at.Statement.{statement}
 use Rattle.pdu_read.proofs.nak.request_at.Tie as tie
 use Rattle.pdu_read.proofs.nak.request_at.Reads as reads
 use Rattle.pdu_read.proofs.nak.request_at.Lts as lts
-use Rattle.basis.proofs.num_at.Reads as num-at-reads
+use Rattle.pdu_read.proofs.field.num_of.Reads as num-of-reads
 use Rattle.pdu_read.proofs.field.size_width.Reads as size-width-reads
 use Rattle.pdu_read.proofs.nak.size_behind.Reads as size-behind-reads
 
@@ -14,8 +13,8 @@ size-width-requires : tie.Need-size-width-requires
 size-width-requires c κs = search needs
 
 -- src/nak.rt:47:9
-num-at-requires : tie.Need-num-at-requires
-num-at-requires c κs = search needs
+num-of-requires : tie.Need-num-of-requires
+num-of-requires c κs = search needs
 
 -- src/nak.rt:48:9
 size-behind-requires : tie.Need-size-behind-requires
@@ -24,8 +23,8 @@ size-behind-requires c κs = search needs
 -- src/nak.rt:43:1
 returns : tie.Need-returns
 unfolding requestAt
-returns c = rw (c .size-behind .ensures, c .before .num-at .ensures .0, c .before .before .size-width .ensures .0, all-counts)
+returns c = rw (c .size-behind .ensures, c .before .num-of .ensures .0, c .before .before .size-width .ensures .0)
 
 pub request-at-spec : {M : Type 1} → statement M
 request-at-spec =
-    tie.close (tie.spec size-width-requires num-at-requires size-behind-requires returns)
+    tie.close (tie.spec size-width-requires num-of-requires size-behind-requires returns)

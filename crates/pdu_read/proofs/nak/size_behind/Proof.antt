@@ -1,13 +1,12 @@
 use native.Mathlib.Omega.{arith}
-use Rattle.basis.proofs.Bytes.{num-past}
 use mathlib.Core.Path.{_∙_}
-use Rattle.pdu_read.proofs.Fields.{all-counts}
+use Rattle.basis.proofs.Bytes.{num-past}
 use borrow.Author.Needs.{needs}
 use Rattle.pdu_read.proofs.nak.size_behind.Statement.{statement}
 use Rattle.pdu_read.proofs.nak.size_behind.Tie as tie
 use Rattle.pdu_read.proofs.nak.size_behind.Reads as reads
 use Rattle.pdu_read.proofs.nak.size_behind.Lts as lts
-use Rattle.basis.proofs.num_at.Reads as num-at-reads
+use Rattle.pdu_read.proofs.field.num_of.Reads as num-of-reads
 use Rattle.pdu_read.proofs.field.size_width.Reads as size-width-reads
 
 -- src/nak.rt:32:9
@@ -27,18 +26,18 @@ returns-2 : tie.Need-returns-2
 returns-2 c = num-past _ _ _ (omega arith)
 
 -- src/nak.rt:39:15
-add-num-at : tie.Need-add-num-at
-add-num-at c = search needs
+add-num-of : tie.Need-add-num-of
+add-num-of c = search needs
 
 -- src/nak.rt:39:5
-num-at-requires : tie.Need-num-at-requires
-num-at-requires c κs = search needs
+num-of-requires : tie.Need-num-of-requires
+num-of-requires c κs = search needs
 
 -- src/nak.rt:29:1
 returns-3 : tie.Need-returns-3
-returns-3 c = c .num-at .ensures .0 ∙ rw (c .before .before .before .size-width .ensures .0, all-counts)
+returns-3 c = c .num-of .ensures .0 ∙ rw (c .before .before .before .size-width .ensures .0)
 
 pub size-behind-spec : {M : Type 1} → statement M
 size-behind-spec =
     tie.close
-    (tie.spec size-width-requires returns sub-if2 returns-2 add-num-at num-at-requires returns-3)
+    (tie.spec size-width-requires returns sub-if2 returns-2 add-num-of num-of-requires returns-3)

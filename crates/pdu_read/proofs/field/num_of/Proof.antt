@@ -1,0 +1,18 @@
+use Rattle.pdu_read.proofs.Fields.{all-count}
+use borrow.Author.Needs.{needs}
+use Rattle.pdu_read.proofs.field.num_of.Statement.{statement}
+use Rattle.pdu_read.proofs.field.num_of.Tie as tie
+use Rattle.pdu_read.proofs.field.num_of.Reads as reads
+use Rattle.pdu_read.proofs.field.num_of.Lts as lts
+use Rattle.basis.proofs.num_at.Reads as num-at-reads
+
+-- src/field.rt:36:5
+num-at-requires : tie.Need-num-at-requires
+num-at-requires c κs = search needs
+
+-- src/field.rt:32:1
+returns : tie.Need-returns
+returns c = all-count _ _ _ _ (c .before .before .pre) (c .num-at .ensures)
+
+pub num-of-spec : {M : Type 1} → statement M
+num-of-spec = tie.close (tie.spec num-at-requires returns)
