@@ -7,6 +7,7 @@ ghost use Rattle.rules.specs.Reading.{ackIn};
 
 // The acked code with the subtype that goes with it.
 const OF_EOF: u8 = 0x40;
+
 const OF_FINISHED: u8 = 0x51;
 
 // An ACK of Finished is read whole before it is refused.

@@ -12,25 +12,33 @@ ghost use Prim.Native.Nat.{_-_};
 ghost use Rattle.basis.specs.Bytes.{part};
 ghost use Rattle.rules.specs.Reading.{directiveIn, directed as directedIs, bodyOf};
 
+// The directive codes.
+const EOF: u8 = 4;
+
+const FINISHED: u8 = 5;
+
+const ACK: u8 = 6;
+
+const METADATA: u8 = 7;
+
+const NAK: u8 = 8;
+
+const PROMPT: u8 = 9;
+
+const KEEP_ALIVE: u8 = 12;
+
 // b has its code byte in front.
 pub fn directive_in(large: bool, code: u8, b: &[u8]) -> Body
     ensures { λ r. ⌜ r ≡ directiveIn large code (now (b .entry)) ⌝ }
 {
     match code {
-        // EOF
-        4 => Body::CantProcess,
-        // Finished
-        5 => finished_in(b),
-        // ACK
-        6 => ack_in(b),
-        // Metadata
-        7 => Body::CantProcess,
-        // NAK
-        8 => nak_in(large, b),
-        // Prompt
-        9 => Body::CantProcess,
-        // Keep Alive
-        12 => keep_alive_in(large, b),
+        EOF => Body::CantProcess,
+        FINISHED => finished_in(b),
+        ACK => ack_in(b),
+        METADATA => Body::CantProcess,
+        NAK => nak_in(large, b),
+        PROMPT => Body::CantProcess,
+        KEEP_ALIVE => keep_alive_in(large, b),
         _ => Body::Malformed,
     }
 }

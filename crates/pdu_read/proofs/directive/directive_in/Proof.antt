@@ -1,67 +1,51 @@
+-- Each arm of the match is the definition at its code; the last, at none of the seven.
+-- Assumes nothing.
 use Rattle.basis.proofs.Pick.{picks}
 use Rattle.rules.specs.Reading.{directiveIn}
 use borrow.Author.Needs.{needs}
 use Rattle.pdu_read.proofs.directive.directive_in.Statement.{statement}
 use Rattle.pdu_read.proofs.directive.directive_in.Tie as tie
-use Rattle.pdu_read.proofs.directive.directive_in.Reads as reads
-use Rattle.pdu_read.proofs.directive.directive_in.Lts as lts
-use Rattle.pdu_read.proofs.ack.ack_in.Reads as ack-in-reads
-use Rattle.pdu_read.proofs.finished.finished_in.Reads as finished-in-reads
-use Rattle.pdu_read.proofs.keep_alive.keep_alive_in.Reads as keep-alive-in-reads
-use Rattle.pdu_read.proofs.nak.nak_in.Reads as nak-in-reads
 
--- src/directive.rt:23:14
 finished-in-requires : tie.Need-finished-in-requires
 finished-in-requires c κs = search needs
 
--- src/directive.rt:25:14
 ack-in-requires : tie.Need-ack-in-requires
 ack-in-requires c κs = search needs
 
--- src/directive.rt:29:14
 nak-in-requires : tie.Need-nak-in-requires
 nak-in-requires c κs = search needs
 
--- src/directive.rt:33:15
 keep-alive-in-requires : tie.Need-keep-alive-in-requires
 keep-alive-in-requires c κs = search needs
 
--- src/directive.rt:16:1
 returns : tie.Need-returns
 unfolding directiveIn
 returns c = rw (c .match .keys1)
 
--- src/directive.rt:16:1
 returns-2 : tie.Need-returns-2
 unfolding directiveIn
 returns-2 c = rw (c .finished-in .ensures, c .before .match .keys2)
 
--- src/directive.rt:16:1
 returns-3 : tie.Need-returns-3
 unfolding directiveIn
 returns-3 c = rw (c .ack-in .ensures, c .before .match .keys3)
 
--- src/directive.rt:16:1
 returns-4 : tie.Need-returns-4
 unfolding directiveIn
 returns-4 c = rw (c .match .keys4)
 
--- src/directive.rt:16:1
 returns-5 : tie.Need-returns-5
 unfolding directiveIn
 returns-5 c = rw (c .nak-in .ensures, c .before .match .keys5)
 
--- src/directive.rt:16:1
 returns-6 : tie.Need-returns-6
 unfolding directiveIn
 returns-6 c = rw (c .match .keys6)
 
--- src/directive.rt:16:1
 returns-7 : tie.Need-returns-7
 unfolding directiveIn
 returns-7 c = rw (c .keep-alive-in .ensures, c .before .match .keys7)
 
--- src/directive.rt:16:1
 returns-8 : tie.Need-returns-8
 unfolding directiveIn
 returns-8 c = search picks depth 12

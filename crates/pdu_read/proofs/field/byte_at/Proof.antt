@@ -1,22 +1,18 @@
--- The byte that is there, or the default of the definition past the end. Assumes nothing.
+-- The byte that is there, and past the end the 0 of the definition.
+-- Assumes nothing.
 use borrow.Author.Needs.{needs}
 use Rattle.basis.specs.Bytes.{byte}
 use Rattle.pdu_read.proofs.Fields.{byte-past}
 use Rattle.pdu_read.proofs.field.byte_at.Statement.{statement}
 use Rattle.pdu_read.proofs.field.byte_at.Tie as tie
-use Rattle.pdu_read.proofs.field.byte_at.Reads as reads
-use Rattle.pdu_read.proofs.field.byte_at.Lts as lts
 
--- src/field.rt:14:9
 returns : tie.Need-returns
 unfolding byte
 returns c = byte-past (c .before .args .s .now) _ (c .if1 .taken)
 
--- src/field.rt:16:5
 shared-slice-read-result : tie.Need-shared-slice-read-result
 shared-slice-read-result c = search needs
 
--- src/field.rt:10:1
 returns-2 : tie.Need-returns-2
 unfolding byte
 returns-2 c = search needs

@@ -1,16 +1,13 @@
+-- At most eight bytes are asked for, so all of them count.
+-- Assumes nothing.
 use Rattle.pdu_read.proofs.Fields.{all-count}
 use borrow.Author.Needs.{needs}
 use Rattle.pdu_read.proofs.field.num_of.Statement.{statement}
 use Rattle.pdu_read.proofs.field.num_of.Tie as tie
-use Rattle.pdu_read.proofs.field.num_of.Reads as reads
-use Rattle.pdu_read.proofs.field.num_of.Lts as lts
-use Rattle.basis.proofs.num_at.Reads as num-at-reads
 
--- src/field.rt:36:5
 num-at-requires : tie.Need-num-at-requires
 num-at-requires c κs = search needs
 
--- src/field.rt:32:1
 returns : tie.Need-returns
 returns c = all-count _ _ _ _ (c .before .before .pre) (c .num-at .ensures)
 

@@ -1,14 +1,12 @@
+-- By the two values of the flag.
+-- Assumes nothing.
 use borrow.Author.Needs.{needs}
 use Rattle.pdu_read.proofs.field.size_width.Statement.{statement}
 use Rattle.pdu_read.proofs.field.size_width.Tie as tie
-use Rattle.pdu_read.proofs.field.size_width.Reads as reads
-use Rattle.pdu_read.proofs.field.size_width.Lts as lts
 
--- src/field.rt:41:1
 returns : tie.Need-returns
 returns c = rw (c .if1 .taken) (search needs)
 
--- src/field.rt:41:1
 returns-2 : tie.Need-returns-2
 returns-2 c = rw (c .if1 .left) (search needs)
 

@@ -1,3 +1,5 @@
+-- The invariant: what the run comes to from here, at the place found so far, is what it comes to from the start.
+-- Assumes nothing.
 use mathlib.Core.Path.{_≡_, _∙_, ap}
 use Prim.Native.Nat.{_-_}
 use lib.ListN.{length, drop, drop-of-length-le}
@@ -7,10 +9,6 @@ use Rattle.pdu_read.proofs.Tlvs.{tlv-step}
 use borrow.Author.Needs.{needs}
 use Rattle.pdu_read.proofs.finished.are_tlvs.Statement.{statement}
 use Rattle.pdu_read.proofs.finished.are_tlvs.Tie as tie
-use Rattle.pdu_read.proofs.finished.are_tlvs.Reads as reads
-use Rattle.pdu_read.proofs.finished.are_tlvs.Lts as lts
-use Rattle.pdu_read.proofs.finished.is_closed.Reads as is-closed-reads
-use Rattle.pdu_read.proofs.finished.tlv_next.Reads as tlv-next-reads
 
 abbrev Inv-loop : tie.InvT-loop
 Inv-loop s from t₀ i₀ t i = tlvAfter (meant t) (drop i s) ≡ tlvAfter atType (drop from s)
@@ -18,35 +16,27 @@ Inv-loop s from t₀ i₀ t i = tlvAfter (meant t) (drop i s) ≡ tlvAfter atTyp
 abbrev μ-loop : tie.MeasureT-loop
 μ-loop s from t₀ i₀ t i = length s - i
 
--- src/finished.rt:66:5
 loop-holds : tie.Need-loop-holds Inv-loop μ-loop
 loop-holds c = search needs
 
--- src/finished.rt:67:25
 shared-slice-read-tlv-next : tie.Need-shared-slice-read-tlv-next Inv-loop μ-loop
 shared-slice-read-tlv-next c = search needs
 
--- src/finished.rt:67:9
 tlv-next-requires : tie.Need-tlv-next-requires Inv-loop μ-loop
 tlv-next-requires c κs = search needs
 
--- src/finished.rt:68:9
 add-i : tie.Need-add-i Inv-loop μ-loop
 add-i c = search needs
 
--- src/finished.rt:66:5
 loop-less : tie.Need-loop-less Inv-loop μ-loop
 loop-less c = search needs
 
--- src/finished.rt:66:5
 loop-again : tie.Need-loop-again Inv-loop μ-loop
 loop-again c = cc (tlv-step _ _ _ (c .before .before .loop-test .taken))
 
--- src/finished.rt:70:5
 is-closed-requires : tie.Need-is-closed-requires Inv-loop μ-loop
 is-closed-requires c κs = search needs
 
--- src/finished.rt:61:1
 returns : tie.Need-returns Inv-loop μ-loop
 unfolding areTlvs
 returns c = c .is-closed .ensures ∙ ap closed (rw (drop-of-length-le _ (c .before .loop-test .left)) at (c .before .before .loop .inv))

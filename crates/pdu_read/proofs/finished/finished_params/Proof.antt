@@ -1,12 +1,11 @@
+-- A mask of k ones is a remainder by 2 ^ k.
+-- Assumes nothing.
 use Prim.Native.Nat.{_/_}
 use lib.Bits.{and-mask}
 use Rattle.rules.specs.Reading.{finishedParams}
 use Rattle.pdu_read.proofs.finished.finished_params.Statement.{statement}
 use Rattle.pdu_read.proofs.finished.finished_params.Tie as tie
-use Rattle.pdu_read.proofs.finished.finished_params.Reads as reads
-use Rattle.pdu_read.proofs.finished.finished_params.Lts as lts
 
--- src/finished.rt:71:1
 returns : tie.Need-returns
 unfolding finishedParams
 returns c = simp (and-mask (c .args .b / 4) 1, and-mask (c .args .b) 2)

@@ -1,56 +1,43 @@
+-- Each arm is the definition at its place in the run.
+-- Assumes nothing.
 use Rattle.basis.proofs.Pick.{picks}
 use borrow.Author.Needs.{needs}
 use Rattle.pdu_read.proofs.finished.tlv_next.Statement.{statement}
 use Rattle.pdu_read.proofs.finished.tlv_next.Tie as tie
-use Rattle.pdu_read.proofs.finished.tlv_next.Reads as reads
-use Rattle.pdu_read.proofs.finished.tlv_next.Lts as lts
-use Rattle.pdu_read.proofs.finished.value_of.Reads as value-of-reads
 
--- src/finished.rt:34:16
 enum-told : tie.Need-enum-told
 enum-told c = search needs
 
--- src/finished.rt:35:17
 returns : tie.Need-returns
 returns c = rw (c .before .enum-told .given .1) (search picks depth 6)
 
--- src/finished.rt:38:17
 returns-2 : tie.Need-returns-2
 returns-2 c = rw (c .before .before .enum-told .given .1) (search picks depth 6)
 
--- src/finished.rt:42:26
 enum-told-2 : tie.Need-enum-told-2
 enum-told-2 c = search needs
 
--- src/finished.rt:42:26
 value-of-requires : tie.Need-value-of-requires
 value-of-requires c κs = search needs
 
--- src/finished.rt:43:22
 enum-known-t : tie.Need-enum-known-t
 enum-known-t c = search needs
 
--- src/finished.rt:43:28
 value-of-requires-2 : tie.Need-value-of-requires-2
 value-of-requires-2 c κs = search needs
 
--- src/finished.rt:44:24
 enum-told-3 : tie.Need-enum-told-3
 enum-told-3 c = search needs
 
--- src/finished.rt:29:1
 returns-3 : tie.Need-returns-3
 returns-3 c = rw (c .before .before .enum-told .given .1) (search picks depth 6)
 
--- src/finished.rt:29:1
 returns-4 : tie.Need-returns-4
 returns-4 c = search needs
 
--- src/finished.rt:29:1
 returns-5 : tie.Need-returns-5
 returns-5 c = search needs
 
--- src/finished.rt:29:1
 returns-6 : tie.Need-returns-6
 returns-6 c = search needs
 

@@ -1,19 +1,16 @@
+-- A value of no bytes is over; any other has one byte less to come behind its first.
+-- Assumes nothing.
 use Rattle.pdu_read.proofs.Tlvs.{value-some}
 use borrow.Author.Needs.{needs}
 use Rattle.pdu_read.proofs.finished.value_of.Statement.{statement}
 use Rattle.pdu_read.proofs.finished.value_of.Tie as tie
-use Rattle.pdu_read.proofs.finished.value_of.Reads as reads
-use Rattle.pdu_read.proofs.finished.value_of.Lts as lts
 
--- src/finished.rt:24:9
 returns : tie.Need-returns
 returns c = search needs
 
--- src/finished.rt:26:18
 sub-t3 : tie.Need-sub-t3
 sub-t3 c = search needs
 
--- src/finished.rt:20:1
 returns-2 : tie.Need-returns-2
 returns-2 c = value-some _ (c .if1 .left)
 

@@ -1,19 +1,15 @@
+-- By the two values of the CRC flag.
+-- Assumes nothing.
 use borrow.Author.Needs.{needs}
 use Rattle.pdu_read.proofs.header.crc_length.Statement.{statement}
 use Rattle.pdu_read.proofs.header.crc_length.Tie as tie
-use Rattle.pdu_read.proofs.header.crc_length.Reads as reads
-use Rattle.pdu_read.proofs.header.crc_length.Lts as lts
-use Rattle.pdu_read.proofs.header.has_crc.Reads as has-crc-reads
 
--- src/header.rt:122:8
 has-crc-requires : tie.Need-has-crc-requires
 has-crc-requires c κs = search needs
 
--- src/header.rt:119:1
 returns : tie.Need-returns
 returns c = (rw (← (c .before .has-crc .ensures), c .if1 .taken), search needs)
 
--- src/header.rt:119:1
 returns-2 : tie.Need-returns-2
 returns-2 c = (rw (← (c .before .has-crc .ensures), c .if1 .left), search needs)
 

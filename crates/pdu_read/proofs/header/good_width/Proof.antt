@@ -1,26 +1,22 @@
+-- Each way through the tests is a branch of the definition.
+-- Assumes nothing.
 use Rattle.basis.proofs.Pick.{picks}
 use Rattle.rules.specs.Numbers.{goodWidth}
 use Rattle.pdu_read.proofs.header.good_width.Statement.{statement}
 use Rattle.pdu_read.proofs.header.good_width.Tie as tie
-use Rattle.pdu_read.proofs.header.good_width.Reads as reads
-use Rattle.pdu_read.proofs.header.good_width.Lts as lts
 
--- src/header.rt:65:9
 returns : tie.Need-returns
 unfolding goodWidth
 returns c = search picks depth 10
 
--- src/header.rt:68:9
 returns-2 : tie.Need-returns-2
 unfolding goodWidth
 returns-2 c = search picks depth 10
 
--- src/header.rt:71:9
 returns-3 : tie.Need-returns-3
 unfolding goodWidth
 returns-3 c = search picks depth 10
 
--- src/header.rt:61:1
 returns-4 : tie.Need-returns-4
 unfolding goodWidth
 returns-4 c = search picks depth 10

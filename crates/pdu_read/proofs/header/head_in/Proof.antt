@@ -1,88 +1,64 @@
+-- Field by field what the callees say.
+-- Assumes nothing.
 use Rattle.rules.specs.Reading.{headIn, unacknowledgedIn, crcIn, largeIn}
 use borrow.Author.Needs.{needs}
 use Rattle.pdu_read.proofs.header.head_in.Statement.{statement}
 use Rattle.pdu_read.proofs.header.head_in.Tie as tie
-use Rattle.pdu_read.proofs.header.head_in.Reads as reads
-use Rattle.pdu_read.proofs.header.head_in.Lts as lts
-use Rattle.pdu_read.proofs.field.byte_at.Reads as byte-at-reads
-use Rattle.pdu_read.proofs.field.num_of.Reads as num-of-reads
-use Rattle.pdu_read.proofs.header.bit.Reads as bit-reads
-use Rattle.pdu_read.proofs.header.id_width.Reads as id-width-reads
-use Rattle.pdu_read.proofs.header.seq_width.Reads as seq-width-reads
 
--- src/header.rt:81:9
 byte-at-requires : tie.Need-byte-at-requires
 byte-at-requires c κs = search needs
 
--- src/header.rt:82:9
 bit-requires : tie.Need-bit-requires
 bit-requires c κs = search needs
 
--- src/header.rt:83:9
 bit-requires-2 : tie.Need-bit-requires-2
 bit-requires-2 c κs = search needs
 
--- src/header.rt:84:9
 bit-requires-3 : tie.Need-bit-requires-3
 bit-requires-3 c κs = search needs
 
--- src/header.rt:85:9
 id-width-requires : tie.Need-id-width-requires
 id-width-requires c κs = search needs
 
--- src/header.rt:86:9
 seq-width-requires : tie.Need-seq-width-requires
 seq-width-requires c κs = search needs
 
--- src/header.rt:87:31
 cast-num-of : tie.Need-cast-num-of
 cast-num-of c = search needs
 
--- src/header.rt:87:9
 num-of-requires : tie.Need-num-of-requires
 num-of-requires c κs = search needs
 
--- src/header.rt:88:32
 cast-num-of-2 : tie.Need-cast-num-of-2
 cast-num-of-2 c = search needs
 
--- src/header.rt:88:28
 add-num-of : tie.Need-add-num-of
 add-num-of c = search needs
 
--- src/header.rt:88:44
 cast-num-of-3 : tie.Need-cast-num-of-3
 cast-num-of-3 c = search needs
 
--- src/header.rt:88:9
 num-of-requires-2 : tie.Need-num-of-requires-2
 num-of-requires-2 c κs = search needs
 
--- src/header.rt:89:37
 cast-num-of-4 : tie.Need-cast-num-of-4
 cast-num-of-4 c = search needs
 
--- src/header.rt:89:33
 add-num-of-2 : tie.Need-add-num-of-2
 add-num-of-2 c = search needs
 
--- src/header.rt:89:50
 cast-num-of-5 : tie.Need-cast-num-of-5
 cast-num-of-5 c = search needs
 
--- src/header.rt:89:33
 add-num-of-3 : tie.Need-add-num-of-3
 add-num-of-3 c = search needs
 
--- src/header.rt:89:62
 cast-num-of-6 : tie.Need-cast-num-of-6
 cast-num-of-6 c = search needs
 
--- src/header.rt:89:9
 num-of-requires-3 : tie.Need-num-of-requires-3
 num-of-requires-3 c κs = search needs
 
--- src/header.rt:78:1
 returns : tie.Need-returns
 unfolding headIn unacknowledgedIn crcIn largeIn
 returns c = cc
