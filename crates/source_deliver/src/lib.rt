@@ -1,75 +1,32 @@
-// A delivery: what the bytes say, then what the table of steps answers. Refusals are tried in the order 20, 21, 23, 22, 24, 25; a
-// refused delivery changes nothing.
+// A delivery: what the bytes say, then what the table of steps answers. Any state and any bytes are taken. The refusals are tried in
+// the order 20, 21, 23, 22, 24, 25, and a refused delivery changes nothing.
+mod answer;
+mod moved;
+mod nak;
+mod table;
+
 use crate::answer::accepted;
 use crate::answer::refused;
+use crate::moved::moved_by;
 use crate::nak::handle_nak_pdu;
 use crate::table::verdict_of;
+use pdu_read::directive::read_body;
+use pdu_read::header::read_header;
 use rules::Body;
 use rules::Done;
-use rules::FinishedParams;
 use rules::Frame;
+use rules::Framed;
 use rules::Head;
 use rules::Meaning;
-use rules::Queue;
 use rules::Refusal;
-use rules::SegmentRequest;
 use rules::State;
 use rules::TransactionStep;
 use rules::Verdict;
 ghost use mathlib.Core.Path.{_≡_};
-ghost use Rattle.rules.specs.Deliver.{sameTransaction, finishedOf, movedBy, byVerdict, verdictOf, heard as heardIs, byBody};
-ghost use Rattle.rules.specs.States.{isIdle, toStep};
+ghost use Rattle.rules.specs.States.{isIdle};
+ghost use Rattle.rules.specs.Deliver.{sameTransaction, verdictOf, byVerdict, heard as heardIs, byBody};
+ghost use Rattle.rules.specs.Calls.{DeliverMeets};
 ghost use Rattle.source_deliver.specs.Asked.{askedCount};
-ghost use Rattle.rules.specs.declared.TransactionStep.the-variants.{WaitingForFinished};
-
-mod answer;
-mod nak;
-mod table;
-
-// ---- what a PDU moves
-
-fn to_step(s: State, step: TransactionStep) -> State
-    ensures { λ r. ⌜ r ≡ toStep s step ⌝ }
-{
-    let fixed = s.fixed;
-    let names = s.names;
-    let file = s.file;
-    let queue = s.queue;
-    let marks = s.marks;
-    let number = s.number;
-    State { number, step, fixed, names, file, queue, marks }
-}
-
-fn handle_ack_pdu(s: State) -> State
-    ensures { λ r. ⌜ r ≡ toStep s WaitingForFinished ⌝ }
-{
-    to_step(s, TransactionStep::WaitingForFinished)
-}
-
-// The queue and an owed EOF are dropped.
-fn handle_finished_pdu(s: State, p: FinishedParams) -> State
-    ensures { λ r. ⌜ r ≡ finishedOf s p ⌝ }
-{
-    let queue = Queue { places: [SegmentRequest { start: 0, end: 0 }; 64], count: 0 };
-    let mut marks = s.marks;
-    marks.owed = false;
-    marks.finished = p;
-    let mut t = s;
-    t.queue = queue;
-    t.marks = marks;
-    to_step(t, TransactionStep::Closing)
-}
-
-fn moved_by(s: State, m: Meaning) -> State
-    ensures { λ r. ⌜ r ≡ movedBy s m ⌝ }
-{
-    match m {
-        Meaning::Finished(p) => handle_finished_pdu(s, p),
-        Meaning::AckOfEof => handle_ack_pdu(s),
-        Meaning::Nak(_) => s,
-        Meaning::KeepAlive(_) => s,
-    }
-}
 
 // ---- the table at work
 
@@ -120,7 +77,7 @@ fn is_idle(step: TransactionStep) -> bool
     }
 }
 
-// By value, whatever the widths.
+// Compared by value, whatever the widths.
 fn same_transaction(a: Head, b: Head) -> bool
     ensures { λ r. ⌜ r ≡ sameTransaction a b ⌝ }
 {
@@ -133,6 +90,7 @@ fn same_transaction(a: Head, b: Head) -> bool
     a.destination.1 == b.destination.1
 }
 
+// Idle has no transaction to compare with.
 fn heard(s: State, bytes: &[u8], f: Frame, m: Meaning) -> Done
     ensures { λ r. ⌜ r ≡ heardIs s (now (bytes .entry)) f m ⌝ }
 {
@@ -146,6 +104,8 @@ fn heard(s: State, bytes: &[u8], f: Frame, m: Meaning) -> Done
     refused(s, Refusal::OtherTransaction)
 }
 
+// ---- what the bytes say
+
 fn by_body(s: State, bytes: &[u8], f: Frame, b: Body) -> Done
     ensures { λ r. ⌜ r ≡ byBody s (now (bytes .entry)) f b ⌝ }
 {
@@ -153,5 +113,18 @@ fn by_body(s: State, bytes: &[u8], f: Frame, b: Body) -> Done
         Body::Malformed => refused(s, Refusal::Malformed),
         Body::CantProcess => refused(s, Refusal::CantProcessPacketType),
         Body::Means(m) => heard(s, bytes, f, m),
+    }
+}
+
+pub fn deliver(s: State, bytes: &[u8]) -> Done
+    ensures { λ r. ⌜ DeliverMeets s (now (bytes .entry)) r ⌝ }
+{
+    let framed = read_header(bytes);
+    match framed {
+        Framed::Malformed => refused(s, Refusal::Malformed),
+        Framed::Whole(f) => {
+            let b = read_body(bytes, f);
+            by_body(s, bytes, f, b)
+        }
     }
 }

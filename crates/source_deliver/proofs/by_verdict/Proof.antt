@@ -11,7 +11,7 @@ use Rattle.source_deliver.proofs.by_verdict.Lts as lts
 use Rattle.source_deliver.proofs.answer.accepted.Reads as accepted-reads
 use Rattle.source_deliver.proofs.answer.refused.Reads as refused-reads
 use Rattle.source_deliver.proofs.asked_count.Reads as asked-count-reads
-use Rattle.source_deliver.proofs.moved_by.Reads as moved-by-reads
+use Rattle.source_deliver.proofs.moved.moved_by.Reads as moved-by-reads
 use Rattle.source_deliver.proofs.nak.handle_nak_pdu.Reads as handle-nak-pdu-reads
 
 -- src/lib.rt:92:57

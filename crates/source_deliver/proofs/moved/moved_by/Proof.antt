@@ -1,12 +1,12 @@
 -- Each arm is the definition's clause.
 -- Assumes nothing.
 use borrow.Author.Needs.{needs}
-use Rattle.source_deliver.proofs.moved_by.Statement.{statement}
-use Rattle.source_deliver.proofs.moved_by.Tie as tie
-use Rattle.source_deliver.proofs.moved_by.Reads as reads
-use Rattle.source_deliver.proofs.moved_by.Lts as lts
-use Rattle.source_deliver.proofs.handle_ack_pdu.Reads as handle-ack-pdu-reads
-use Rattle.source_deliver.proofs.handle_finished_pdu.Reads as handle-finished-pdu-reads
+use Rattle.source_deliver.proofs.moved.moved_by.Statement.{statement}
+use Rattle.source_deliver.proofs.moved.moved_by.Tie as tie
+use Rattle.source_deliver.proofs.moved.moved_by.Reads as reads
+use Rattle.source_deliver.proofs.moved.moved_by.Lts as lts
+use Rattle.source_deliver.proofs.moved.handle_ack_pdu.Reads as handle-ack-pdu-reads
+use Rattle.source_deliver.proofs.moved.handle_finished_pdu.Reads as handle-finished-pdu-reads
 
 -- src/lib.rt:67:27
 enum-known-m : tie.Need-enum-known-m
