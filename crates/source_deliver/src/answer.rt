@@ -9,11 +9,17 @@ ghost use Rattle.rules.specs.Deliver.{refused as refusedIs, accepted as accepte
 pub fn refused(s: State, why: Refusal) -> Done
     ensures { λ r. ⌜ r ≡ refusedIs s why ⌝ }
 {
-    Done { answer: Answer::Refused(why), state: s }
+    Done {
+        answer: Answer::Refused(why),
+        state: s,
+    }
 }
 
 pub fn accepted(s: State) -> Done
     ensures { λ r. ⌜ r ≡ acceptedIs s ⌝ }
 {
-    Done { answer: Answer::Accepted, state: s }
+    Done {
+        answer: Answer::Accepted,
+        state: s,
+    }
 }

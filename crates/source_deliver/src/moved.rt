@@ -19,7 +19,15 @@ fn to_step(s: State, step: TransactionStep) -> State
     let file = s.file;
     let queue = s.queue;
     let marks = s.marks;
-    State { number, step, fixed, names, file, queue, marks }
+    State {
+        number,
+        step,
+        fixed,
+        names,
+        file,
+        queue,
+        marks,
+    }
 }
 
 // Of EOF.
@@ -33,7 +41,10 @@ fn handle_ack_pdu(s: State) -> State
 fn handle_finished_pdu(s: State, p: FinishedParams) -> State
     ensures { λ r. ⌜ r ≡ finishedOf s p ⌝ }
 {
-    let queue = Queue { places: [SegmentRequest { start: 0, end: 0 }; 64], count: 0 };
+    let queue = Queue {
+        places: [SegmentRequest { start: 0, end: 0 }; 64],
+        count: 0,
+    };
     let mut marks = s.marks;
     marks.owed = false;
     marks.finished = p;

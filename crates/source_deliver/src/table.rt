@@ -9,19 +9,54 @@ ghost use Rattle.rules.specs.Deliver.{stepNo, verdictOf};
 
 const TABLE: [Row; 7] = [
     // Idle
-    Row { nak: Verdict::Refuse, ack: Verdict::Refuse, finished: Verdict::NoEffect, keepalive: Verdict::NoEffect },
+    Row {
+        nak: Verdict::Refuse,
+        ack: Verdict::Refuse,
+        finished: Verdict::NoEffect,
+        keepalive: Verdict::NoEffect,
+    },
     // SendingMetadata
-    Row { nak: Verdict::Refuse, ack: Verdict::Refuse, finished: Verdict::Refuse, keepalive: Verdict::NoEffect },
+    Row {
+        nak: Verdict::Refuse,
+        ack: Verdict::Refuse,
+        finished: Verdict::Refuse,
+        keepalive: Verdict::NoEffect,
+    },
     // SendingFileData
-    Row { nak: Verdict::Enqueue, ack: Verdict::Refuse, finished: Verdict::Refuse, keepalive: Verdict::NoEffect },
+    Row {
+        nak: Verdict::Enqueue,
+        ack: Verdict::Refuse,
+        finished: Verdict::Refuse,
+        keepalive: Verdict::NoEffect,
+    },
     // SendingEof
-    Row { nak: Verdict::Enqueue, ack: Verdict::Refuse, finished: Verdict::Refuse, keepalive: Verdict::NoEffect },
+    Row {
+        nak: Verdict::Enqueue,
+        ack: Verdict::Refuse,
+        finished: Verdict::Refuse,
+        keepalive: Verdict::NoEffect,
+    },
     // WaitingForEofAck
-    Row { nak: Verdict::Enqueue, ack: Verdict::Move, finished: Verdict::Refuse, keepalive: Verdict::NoEffect },
+    Row {
+        nak: Verdict::Enqueue,
+        ack: Verdict::Move,
+        finished: Verdict::Refuse,
+        keepalive: Verdict::NoEffect,
+    },
     // WaitingForFinished
-    Row { nak: Verdict::Enqueue, ack: Verdict::Refuse, finished: Verdict::Move, keepalive: Verdict::NoEffect },
+    Row {
+        nak: Verdict::Enqueue,
+        ack: Verdict::Refuse,
+        finished: Verdict::Move,
+        keepalive: Verdict::NoEffect,
+    },
     // Closing
-    Row { nak: Verdict::Refuse, ack: Verdict::Refuse, finished: Verdict::Refuse, keepalive: Verdict::NoEffect },
+    Row {
+        nak: Verdict::Refuse,
+        ack: Verdict::Refuse,
+        finished: Verdict::Refuse,
+        keepalive: Verdict::NoEffect,
+    },
 ];
 
 // A step's row.

@@ -3,44 +3,31 @@
 use borrow.Author.Needs.{needs}
 use Rattle.source_deliver.proofs.by_body.Statement.{statement}
 use Rattle.source_deliver.proofs.by_body.Tie as tie
-use Rattle.source_deliver.proofs.by_body.Reads as reads
-use Rattle.source_deliver.proofs.by_body.Lts as lts
-use Rattle.source_deliver.proofs.answer.refused.Reads as refused-reads
-use Rattle.source_deliver.proofs.heard.Reads as heard-reads
 
--- src/lib.rt:153:39
 enum-told : tie.Need-enum-told
 enum-told c = search needs
 
--- src/lib.rt:153:28
 refused-requires : tie.Need-refused-requires
 refused-requires c κs = search needs
 
--- src/lib.rt:154:41
 enum-told-2 : tie.Need-enum-told-2
 enum-told-2 c = search needs
 
--- src/lib.rt:154:30
 refused-requires-2 : tie.Need-refused-requires-2
 refused-requires-2 c κs = search needs
 
--- src/lib.rt:155:21
 enum-known-b : tie.Need-enum-known-b
 enum-known-b c = search needs
 
--- src/lib.rt:155:27
 heard-requires : tie.Need-heard-requires
 heard-requires c κs = search needs
 
--- src/lib.rt:149:1
 returns : tie.Need-returns
 returns c = rw (c .refused .ensures, c .before .enum-told .given .1)
 
--- src/lib.rt:149:1
 returns-2 : tie.Need-returns-2
 returns-2 c = rw (c .refused2 .ensures, c .before .enum-told2 .given .1)
 
--- src/lib.rt:149:1
 returns-3 : tie.Need-returns-3
 returns-3 c = rw (c .heard .ensures, c .before .before .b .given .1)
 

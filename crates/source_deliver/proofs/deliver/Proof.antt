@@ -4,43 +4,29 @@ use Rattle.rules.specs.Deliver.{deliverSpec}
 use borrow.Author.Needs.{needs}
 use Rattle.source_deliver.proofs.deliver.Statement.{statement}
 use Rattle.source_deliver.proofs.deliver.Tie as tie
-use Rattle.source_deliver.proofs.deliver.Reads as reads
-use Rattle.source_deliver.proofs.deliver.Lts as lts
-use Rattle.pdu_read.proofs.directive.read_body.Reads as read-body-reads
-use Rattle.pdu_read.proofs.header.read_header.Reads as read-header-reads
-use Rattle.source_deliver.proofs.answer.refused.Reads as refused-reads
-use Rattle.source_deliver.proofs.by_body.Reads as by-body-reads
 
--- src/lib.rt:122:9
 read-header-requires : tie.Need-read-header-requires
 read-header-requires c κs = search needs
 
--- src/lib.rt:124:41
 enum-told : tie.Need-enum-told
 enum-told c = search needs
 
--- src/lib.rt:124:30
 refused-requires : tie.Need-refused-requires
 refused-requires c κs = search needs
 
--- src/lib.rt:125:23
 enum-known-framed : tie.Need-enum-known-framed
 enum-known-framed c = search needs
 
--- src/lib.rt:126:17
 read-body-requires : tie.Need-read-body-requires
 read-body-requires c κs = search needs
 
--- src/lib.rt:127:13
 by-body-requires : tie.Need-by-body-requires
 by-body-requires c κs = search needs
 
--- src/lib.rt:119:1
 returns : tie.Need-returns
 unfolding deliverSpec
 returns c = rw (c .refused .ensures, ← (c .before .before .before .read-header .ensures), c .before .enum-told .given .1)
 
--- src/lib.rt:119:1
 returns-2 : tie.Need-returns-2
 unfolding deliverSpec
 returns-2 c = rw (c .by-body .ensures, c .before .read-body .ensures, ← (c .before .before .before .before .before .read-header .ensures), c .before .before .before .framed .given .1)

@@ -5,44 +5,30 @@ use Rattle.rules.specs.Deliver.{heard}
 use borrow.Author.Needs.{needs}
 use Rattle.source_deliver.proofs.heard.Statement.{statement}
 use Rattle.source_deliver.proofs.heard.Tie as tie
-use Rattle.source_deliver.proofs.heard.Reads as reads
-use Rattle.source_deliver.proofs.heard.Lts as lts
-use Rattle.source_deliver.proofs.answer.refused.Reads as refused-reads
-use Rattle.source_deliver.proofs.by_table.Reads as by-table-reads
-use Rattle.source_deliver.proofs.is_idle.Reads as is-idle-reads
-use Rattle.source_deliver.proofs.same_transaction.Reads as same-transaction-reads
 
--- src/lib.rt:140:8
 is-idle-requires : tie.Need-is-idle-requires
 is-idle-requires c κs = search needs
 
--- src/lib.rt:141:9
 by-table-requires : tie.Need-by-table-requires
 by-table-requires c κs = search needs
 
--- src/lib.rt:141:9
 returns : tie.Need-returns
 unfolding heard
 returns c = rw (c .by-table .ensures) (search (picks, told) depth 8)
 
--- src/lib.rt:143:8
 same-transaction-requires : tie.Need-same-transaction-requires
 same-transaction-requires c κs = search needs
 
--- src/lib.rt:144:9
 by-table-requires-2 : tie.Need-by-table-requires-2
 by-table-requires-2 c κs = search needs
 
--- src/lib.rt:144:9
 returns-2 : tie.Need-returns-2
 unfolding heard
 returns-2 c = rw (c .by-table2 .ensures) (search (picks, told) depth 8)
 
--- src/lib.rt:146:5
 refused-requires : tie.Need-refused-requires
 refused-requires c κs = search needs
 
--- src/lib.rt:136:1
 returns-3 : tie.Need-returns-3
 unfolding heard
 returns-3 c = rw (c .refused .ensures) (search (picks, told) depth 8)

@@ -4,20 +4,15 @@ use Rattle.basis.proofs.Pick.{picks}
 use Rattle.rules.specs.Deliver.{sameTransaction}
 use Rattle.source_deliver.proofs.same_transaction.Statement.{statement}
 use Rattle.source_deliver.proofs.same_transaction.Tie as tie
-use Rattle.source_deliver.proofs.same_transaction.Reads as reads
-use Rattle.source_deliver.proofs.same_transaction.Lts as lts
 
--- src/lib.rt:124:9
 returns : tie.Need-returns
 unfolding sameTransaction
 returns c = search picks depth 6
 
--- src/lib.rt:127:9
 returns-2 : tie.Need-returns-2
 unfolding sameTransaction
 returns-2 c = search picks depth 6
 
--- src/lib.rt:120:1
 returns-3 : tie.Need-returns-3
 unfolding sameTransaction
 returns-3 c = search picks depth 6

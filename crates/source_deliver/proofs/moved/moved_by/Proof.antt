@@ -3,48 +3,34 @@
 use borrow.Author.Needs.{needs}
 use Rattle.source_deliver.proofs.moved.moved_by.Statement.{statement}
 use Rattle.source_deliver.proofs.moved.moved_by.Tie as tie
-use Rattle.source_deliver.proofs.moved.moved_by.Reads as reads
-use Rattle.source_deliver.proofs.moved.moved_by.Lts as lts
-use Rattle.source_deliver.proofs.moved.handle_ack_pdu.Reads as handle-ack-pdu-reads
-use Rattle.source_deliver.proofs.moved.handle_finished_pdu.Reads as handle-finished-pdu-reads
 
--- src/lib.rt:67:27
 enum-known-m : tie.Need-enum-known-m
 enum-known-m c = search needs
 
--- src/lib.rt:67:33
 handle-finished-pdu-requires : tie.Need-handle-finished-pdu-requires
 handle-finished-pdu-requires c κs = search needs
 
--- src/lib.rt:68:30
 enum-told : tie.Need-enum-told
 enum-told c = search needs
 
--- src/lib.rt:68:30
 handle-ack-pdu-requires : tie.Need-handle-ack-pdu-requires
 handle-ack-pdu-requires c κs = search needs
 
--- src/lib.rt:69:28
 enum-told-2 : tie.Need-enum-told-2
 enum-told-2 c = search needs
 
--- src/lib.rt:70:34
 enum-told-3 : tie.Need-enum-told-3
 enum-told-3 c = search needs
 
--- src/lib.rt:63:1
 returns : tie.Need-returns
 returns c = rw (c .handle-finished-pdu .ensures, c .before .before .m .given .1)
 
--- src/lib.rt:63:1
 returns-2 : tie.Need-returns-2
 returns-2 c = rw (c .handle-ack-pdu .ensures, c .before .enum-told .given .1)
 
--- src/lib.rt:63:1
 returns-3 : tie.Need-returns-3
 returns-3 c = rw (c .enum-told2 .given .1)
 
--- src/lib.rt:63:1
 returns-4 : tie.Need-returns-4
 returns-4 c = rw (c .enum-told3 .given .1)
 

@@ -4,20 +4,15 @@ use Rattle.basis.proofs.Pick.{picks}
 use Rattle.rules.specs.Deliver.{takesNak}
 use Rattle.source_deliver.proofs.nak.takes_nak.Statement.{statement}
 use Rattle.source_deliver.proofs.nak.takes_nak.Tie as tie
-use Rattle.source_deliver.proofs.nak.takes_nak.Reads as reads
-use Rattle.source_deliver.proofs.nak.takes_nak.Lts as lts
 
--- src/nak.rt:24:9
 returns : tie.Need-returns
 unfolding takesNak
 returns c = search picks depth 6
 
--- src/nak.rt:27:9
 returns-2 : tie.Need-returns-2
 unfolding takesNak
 returns-2 c = search picks depth 6
 
--- src/nak.rt:20:1
 returns-3 : tie.Need-returns-3
 unfolding takesNak
 returns-3 c = search picks depth 6

@@ -7,57 +7,43 @@ use Rattle.source_deliver.proofs.Rows.{row-is}
 use borrow.Author.Needs.{needs}
 use Rattle.source_deliver.proofs.table.verdict_of.Statement.{statement}
 use Rattle.source_deliver.proofs.table.verdict_of.Tie as tie
-use Rattle.source_deliver.proofs.table.verdict_of.Reads as reads
-use Rattle.source_deliver.proofs.table.verdict_of.Lts as lts
-use Rattle.source_deliver.proofs.table.step_no.Reads as step-no-reads
 
--- src/table.rt:45:9
 step-no-requires : tie.Need-step-no-requires
 step-no-requires c κs = search needs
 
--- src/table.rt:46:15
 mul-row : tie.Need-mul-row
 mul-row c = search needs
 
--- src/table.rt:46:15
 array-copy-out-row : tie.Need-array-copy-out-row
 array-copy-out-row c = search needs
 
--- src/table.rt:48:33
 enum-told : tie.Need-enum-told
 enum-told c = search needs
 
--- src/table.rt:49:30
 enum-told-2 : tie.Need-enum-told-2
 enum-told-2 c = search needs
 
--- src/table.rt:50:28
 enum-told-3 : tie.Need-enum-told-3
 enum-told-3 c = search needs
 
--- src/table.rt:51:34
 enum-told-4 : tie.Need-enum-told-4
 enum-told-4 c = search needs
 
--- src/table.rt:42:1
 returns : tie.Need-returns
 unfolding verdictOf
 returns c = rw (c .before .before .before .step-no .ensures .0, c .enum-told .given .1)
     (ap (λ (r : Row). r .finished) (row-is (c .before .before .before .before .args .step) _))
 
--- src/table.rt:42:1
 returns-2 : tie.Need-returns-2
 unfolding verdictOf
 returns-2 c = rw (c .before .before .before .step-no .ensures .0, c .enum-told2 .given .1)
     (ap (λ (r : Row). r .ack) (row-is (c .before .before .before .before .args .step) _))
 
--- src/table.rt:42:1
 returns-3 : tie.Need-returns-3
 unfolding verdictOf
 returns-3 c = rw (c .before .before .before .step-no .ensures .0, c .enum-told3 .given .1)
     (ap (λ (r : Row). r .nak) (row-is (c .before .before .before .before .args .step) _))
 
--- src/table.rt:42:1
 returns-4 : tie.Need-returns-4
 unfolding verdictOf
 returns-4 c = rw (c .before .before .before .step-no .ensures .0, c .enum-told4 .given .1)
