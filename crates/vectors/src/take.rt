@@ -1,0 +1,73 @@
+// Taking things from the stream of vectors: bytes, numbers, a run of bytes behind its length, a header. Past the end everything is zero.
+use rules::EntityId;
+use rules::Head;
+use rules::TransactionSeqNum;
+
+// A place n bytes further; the stream is shorter than a million bytes.
+pub fn on(at: usize, n: usize) -> usize {
+    if at > 1000000 {
+        return at;
+    }
+    if n > 1000000 {
+        return at;
+    }
+    at + n
+}
+
+pub fn byte(s: &[u8], at: usize) -> u8 {
+    if at < s.len() {
+        return s[at];
+    }
+    0
+}
+
+// The bytes from a place on, n of them or as many as there are.
+pub fn part(s: &[u8], at: usize, n: usize) -> &[u8] {
+    let mut a = at;
+    if a > s.len() {
+        a = s.len();
+    }
+    let mut e = s.len();
+    if n < e - a {
+        e = a + n;
+    }
+    &s[a..e]
+}
+
+pub fn length(s: &[u8], at: usize) -> usize {
+    (basis::num_at(s, at, 2) % 65536) as usize
+}
+
+// A run of bytes behind its two bytes of length, and the place behind it.
+pub fn blob(s: &[u8], at: usize) -> &[u8] {
+    part(s, on(at, 2), length(s, at))
+}
+
+pub fn past(s: &[u8], at: usize) -> usize {
+    on(on(at, 2), length(s, at))
+}
+
+fn flag(b: u8, divisor: u8) -> bool {
+    if divisor == 0 {
+        return false;
+    }
+    b / divisor % 2 == 1
+}
+
+// A header takes 27 bytes.
+pub fn head(s: &[u8], at: usize) -> Head {
+    let flags = byte(s, at);
+    let idw = byte(s, on(at, 1));
+    let seqw = byte(s, on(at, 10));
+    let source = basis::num_at(s, on(at, 2), 8);
+    let number = basis::num_at(s, on(at, 11), 8);
+    let destination = basis::num_at(s, on(at, 19), 8);
+    Head {
+        unacknowledged: flag(flags, 1),
+        crc: flag(flags, 2),
+        large: flag(flags, 4),
+        source: EntityId(idw, source),
+        number: TransactionSeqNum(seqw, number),
+        destination: EntityId(idw, destination),
+    }
+}
