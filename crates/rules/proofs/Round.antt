@@ -203,3 +203,150 @@ module _ (h : Head) (filedata tosender : Bool) (body : List ℕ) (f : Fit h) whe
         (λ c. let z = ap C c in
         let b : ltb (lengthIn s) 2 ≡ false = rw (length-read opens l) (le-ltb (length body + C (h .crc)) 2 (omega arith)) in
         rw (b, crc-agrees c) refl) (λ c. refl))
+
+pub decode-read : (h : Head) (filedata : Bool) (body : List ℕ) → Fit h → length body + C (h .crc) < 65536
+    → decode (pduBytes h filedata false body) ≡ withHead h (saidIn filedata (h .large) body)
+unfolding decode
+decode-read h filedata body f l =
+    let o = opens h filedata false body f in
+    simp (well-framed-read h filedata false body f l, tosender-read o, head-read o, filedata-read o, large-read o, body-read h filedata false body f l)
+
+-- ---- the bodies, each of any bytes that hold its layout
+
+metadata-read : {s : List ℕ} (large : Bool) {closure : Bool} {k n : ℕ} {a b : List ℕ} → At s 0 (layout large (metadata closure k n a b))
+    → Sayable large (metadata closure k n a b) → metadataIn large s ≡ some (metadata closure k n a b)
+unfolding metadataIn
+metadata-read {s} large {closure} {k} {n} {a} {b} p h =
+    let z = flag-lt closure in
+    let p3 = past (past (past p)) in
+    let p5 = past (past p3) in
+    let flags : byte s 1 ≡ flag closure * 64 + k = byte-at (past p) (omega arith) in
+    let la : byte s (2 + F large) ≡ length a = byte-at p3 (h .2) in
+    let lb : byte s (2 + F large + 1 + length a) ≡ length b = byte-at p5 (h .3) in
+    let e : length s ≡ 4 + F large + length a + length b = whole-length p ∙ omega arith in
+    let q : bitIn (flag closure * 64 + k) 64 ≡ closure = bit-read (flag closure * 64 + k) 64 closure (omega arith) in
+    let r : (flag closure * 64 + k) % 16 ≡ k = omega arith in
+    simp (la, lb, flags, q, r, eq-eqb _ _ e, num-at (past (past p)) (h .1), part-at (past p3), part-at (past p5))
+
+data-read : {s : List ℕ} (large : Bool) {o : ℕ} {bs : List ℕ} → At s 0 (layout large (fileData o bs)) → o < 2 ^ (8 * F large)
+    → dataIn large s ≡ some (fileData o bs)
+unfolding dataIn
+data-read {s} large {o} {bs} p h =
+    let e : length s ≡ F large + (length bs + 0) = whole-length p in
+    let l : leb (F large) (length s) ≡ true = le-leb (F large) (length s) (omega arith) in
+    let q : drop (F large) s ≡ bs = rw zero-add at (rest-at (past p)) in
+    simp (l, num-at p h, q)
+
+eof-read : {s : List ℕ} (large : Bool) {c k n : ℕ} → At s 0 (layout large (eof c k n)) → Sayable large (eof c k n) → eofIn large s ≡ some (eof c k n)
+unfolding eofIn
+eof-read {s} large {c} {k} {n} p h =
+    let b : byte s 1 ≡ c * 16 = byte-at (past p) (omega arith) in
+    let q : c * 16 / 16 ≡ c = omega arith in
+    let e : length s ≡ 6 + F large = whole-length p ∙ omega arith in
+    simp (eq-eqb _ _ e, b, q, num-at (past (past p)) (h .1), num-at (past (past (past p))) (h .2))
+
+ack-read : {s : List ℕ} (large : Bool) {c t : ℕ} → At s 0 (layout large (ackFinished c t)) → Sayable large (ackFinished c t)
+    → ackFinishedIn s ≡ some (ackFinished c t)
+unfolding ackFinishedIn
+ack-read {s} large {c} {t} p h =
+    let a : byte s 1 ≡ 0x51 = byte-at (past p) (omega arith) in
+    let b : byte s 2 ≡ c * 16 + t = byte-at (past (past p)) (omega arith) in
+    let q : (c * 16 + t) / 16 ≡ c = omega arith in
+    let r : (c * 16 + t) % 4 ≡ t = omega arith in
+    let e : length s ≡ 3 = whole-length p in
+    simp (e, a, b, q, r)
+
+said-read : {s : List ℕ} (large : Bool) (m : Said) → At s 0 (layout large m) → Sayable large m → saidIn (isFileData m) large s ≡ some m
+unfolding saidIn
+said-read {s} large (metadata closure k n a b) p h = let e : byte s 0 ≡ 7 = byte-at p (omega arith) in rw e (metadata-read large p h)
+said-read {s} large (fileData o bs) p h = data-read large p (h .0)
+said-read {s} large (eof c k n) p h = let e : byte s 0 ≡ 4 = byte-at p (omega arith) in rw e (eof-read large p h)
+said-read {s} large (ackFinished c t) p h = let e : byte s 0 ≡ 6 = byte-at p (omega arith) in rw e (ack-read large p h)
+
+-- ---- the laws
+
+-- the length of the data field fits its two bytes
+length-body : (h : Head) (m : Said) → Sayable (h .large) m → length (bodyBytes (h .large) m) + C (h .crc) < 65536
+unfolding bodyBytes
+length-body h (metadata closure k n a b) y = let z = flag-lt (h .crc) in let w = flag-lt (h .large) in simp length-wire (omega arith)
+length-body h (fileData o bs) y = let z = flag-lt (h .crc) in let w = flag-lt (h .large) in simp length-wire (omega arith)
+length-body h (eof c k n) y = let z = flag-lt (h .crc) in let w = flag-lt (h .large) in simp length-wire (omega arith)
+length-body h (ackFinished c t) y = let z = flag-lt (h .crc) in simp length-wire (omega arith)
+
+pub round-trip : RoundTrip
+unfolding encode bodyBytes
+round-trip h m f y =
+    decode-read h (isFileData m) (bodyBytes (h .large) m) f (length-body h m y) ∙ ap (withHead h) (said-read (h .large) m (at-start _ _ refl) y)
+
+pub same-bytes : SameBytes
+same-bytes h g m n f k y z e =
+    let a = round-trip h m f y in
+    let b = round-trip g n k z in
+    let p : _≡_ {A = Pdu} (record { head = h; said = m }) (record { head = g; said = n }) = cc (ap decode e) in
+    (ap (λ (x : Pdu). x .head) p, ap (λ (x : Pdu). x .said) p)
+
+pub crc-checks : CrcChecks
+unfolding encode
+crc-checks h m f e = crc-over h (isFileData m) false (bodyBytes (h .large) m) e
+
+pub length-encode : (h : Head) (m : Said) → length (encode h m) ≡ pduLength h m
+unfolding encode pduLength bodyBytes
+length-encode h m =
+    length-pdu h (isFileData m) false (wire (layout (h .large) m)) ∙ rw (length-wire (layout (h .large) m)) (omega arith)
+
+pub length-agrees : LengthAgrees
+unfolding encode
+length-agrees h m f y =
+    let b = bodyBytes (h .large) m in
+    (length-encode h m, rw (length-read (opens h (isFileData m) false b f) (length-body h m y)) (sym (length-pdu h (isFileData m) false b)))
+
+pub headers-differ : HeadersDiffer
+unfolding headBytes
+headers-differ h g a b c d n k f q l j i w e =
+    let o : Opens (headBytes h a b n) h a b n [] = record { at = at-start _ _ refl; fit = f } in
+    let p : Opens (headBytes g c d k) g c d k [] = record { at = at-start _ _ refl; fit = q } in (
+      sym (head-read o) ∙ ap headIn e ∙ head-read p,
+      sym (filedata-read o) ∙ ap fileDataIn e ∙ filedata-read p,
+      sym (tosender-read o) ∙ ap toSenderIn e ∙ tosender-read p,
+      sym (length-read o l) ∙ ap lengthIn e ∙ length-read p j,
+    )
+
+-- ---- single questions of an observer
+
+-- an EOF is known by its code, whatever its values
+abbrev pub isEofSaid : Said → Bool
+isEofSaid (metadata closure k n a b) = false
+isEofSaid (fileData o bs) = false
+isEofSaid (eof c k n) = true
+isEofSaid (ackFinished c t) = false
+
+directive : (h : Head) (v : ℕ) (fs : List Field) → v < 256 → Fit h → isEofIn (pduBytes h false false (wire (nat 1 v ∷ fs))) ≡ eqb v 4
+unfolding isEofIn
+directive h v fs l f =
+    let o = opens h false false (wire (nat 1 v ∷ fs)) f in
+    let e = byte-at (opened (nat 1 v ∷ fs) (behind-head o)) l in
+    rw (filedata-read o, h-read o, e)
+
+abbrev behind : List Field → List Field
+behind [] = []
+behind (f ∷ fs) = fs
+
+pub eof-seen : (h : Head) (m : Said) → Fit h → isEofIn (encode h m) ≡ isEofSaid m
+unfolding encode bodyBytes isEofIn
+eof-seen h (metadata closure k n a b) f = directive h 7 (behind (layout (h .large) (metadata closure k n a b))) (omega arith) f
+eof-seen h (fileData o bs) f = rw (filedata-read (opens h true false (bodyBytes (h .large) (fileData o bs)) f))
+eof-seen h (eof c k n) f = directive h 4 (behind (layout (h .large) (eof c k n))) (omega arith) f
+eof-seen h (ackFinished c t) f = directive h 6 (behind (layout (h .large) (ackFinished c t))) (omega arith) f
+
+pub file-data : (h : Head) (o : ℕ) (bs : List ℕ) → Fit h → Sayable (h .large) (fileData o bs) → fileDataOf (encode h (fileData o bs)) ≡ some (o, bs)
+unfolding fileDataOf
+file-data h o bs f y = rw (round-trip h (fileData o bs) f y)
+
+-- the large flag's rule is enough: a size fits its field
+pub size-fits : (S : ℕ) → S < 2 ^ 64 → S < 2 ^ (8 * F (isLarge S))
+unfolding isLarge
+size-fits S h = go (ltb 4294967295 S) refl
+  where
+    go : (t : Bool) → ltb 4294967295 S ≡ t → S < 2 ^ (8 * F t)
+    go true e = h
+    go false e = let l = ltb-false 4294967295 S e in omega arith
