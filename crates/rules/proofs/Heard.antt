@@ -86,7 +86,7 @@ tlvs-exactly s = (to-come atType s, taken)
 
 -- ---- the bodies, each of any bytes that hold its layout
 
-one-byte : (v : ℕ) → v < 256 → be 1 v ≡ v ∷ []
+pub one-byte : (v : ℕ) → v < 256 → be 1 v ≡ v ∷ []
 unfolding be
 one-byte v h = ap (λ (x : ℕ). x ∷ []) (omega arith)
 
@@ -126,7 +126,7 @@ sizes-requests : (large : Bool) (rs : List SegmentRequest) → sizes (requestFie
 sizes-requests large [] = omega arith
 sizes-requests large (r ∷ rs) = let i = sizes-requests large rs in omega arith
 
-nak-read : {b : List ℕ} (large : Bool) (x y : ℕ) (rs : List SegmentRequest) → At b 0 (layoutHeard large (nak x y rs))
+pub nak-read : {b : List ℕ} (large : Bool) (x y : ℕ) (rs : List SegmentRequest) → At b 0 (layoutHeard large (nak x y rs))
     → nakIn large b ≡ Means (meaningOf (nak x y rs))
 unfolding nakIn requestCount
 nak-read {b} large x y rs p =
@@ -138,14 +138,14 @@ nak-read {b} large x y rs p =
     let m : 2 * F large * length rs % (2 * F large) ≡ 0 = mul-mod-right (2 * F large) (length rs) in
     simp (l, q, n, m)
 
-keep-alive-read : {b : List ℕ} (large : Bool) (n : ℕ) → At b 0 (layoutHeard large (keepAlive n)) → Hearable large (keepAlive n)
+pub keep-alive-read : {b : List ℕ} (large : Bool) (n : ℕ) → At b 0 (layoutHeard large (keepAlive n)) → Hearable large (keepAlive n)
     → keepAliveIn large b ≡ Means (meaningOf (keepAlive n))
 unfolding keepAliveIn
 keep-alive-read {b} large n p h =
     let e : length b ≡ 1 + F large = whole-length p ∙ omega arith in
     simp (eq-eqb _ _ e, num-at (past p) h)
 
-heard-body : {b : List ℕ} (large : Bool) (m : Heard) → At b 0 (layoutHeard large m) → Hearable large m → directiveIn large (byte b 0) b ≡ Means (meaningOf m)
+pub heard-body : {b : List ℕ} (large : Bool) (m : Heard) → At b 0 (layoutHeard large m) → Hearable large m → directiveIn large (byte b 0) b ≡ Means (meaningOf m)
 unfolding directiveIn
 heard-body {b} large (finished c d s ts) p h = let e : byte b 0 ≡ 5 = byte-at p (omega arith) in rw e (finished-read large c d s ts p h)
 heard-body {b} large (ackEof c t) p h = let e : byte b 0 ≡ 6 = byte-at p (omega arith) in rw e (ack-of-eof-read large c t p h)
