@@ -24,7 +24,7 @@ use Rattle.rules.specs.declared.SegmentRequest.{SegmentRequest}
 use Rattle.rules.specs.declared.Body.{Body}
 use Rattle.rules.specs.declared.Body.the-variants.{Means}
 use Rattle.rules.proofs.Places.{At, at-start, past, num-at, byte-at, whole-length, opened, length-wire}
-use Rattle.rules.proofs.Round.{opens, filedata-read, tosender-read, large-read, head-read, behind-head, body-read, well-framed-read}
+use Rattle.rules.proofs.Round.{Frames, Opens, pdu-frames, filedata-read, tosender-read, large-read, head-read, behind-head, body-read, well-framed-read}
 
 -- ---- TLVs: what the grammar derives, the test takes
 
@@ -187,9 +187,10 @@ pub heard-read : HeardRead
 unfolding encodeHeard framedIn frameIn bodyOf
 heard-read h m f y l =
     let b = wire (layoutHeard (h .large) m) in
-    let o = opens h false true b f in (
-      rw (well-framed-read h false true b f l),
+    let p = pdu-frames h false true b f l in
+    let o = p .opens in (
+      rw (well-framed-read p),
       head-read o,
-      simp (filedata-read o, tosender-read o, head-read o, body-read h false true b f l, code-there (h .large) m, heard-body (h .large) m (at-start b (layoutHeard (h .large) m) refl) y),
+      simp (filedata-read o, tosender-read o, head-read o, body-read p, code-there (h .large) m, heard-body (h .large) m (at-start b (layoutHeard (h .large) m) refl) y),
       heard-requests h m (encodeHeard h m) _ (opened (layoutHeard (h .large) m) (behind-head o)) y,
     )

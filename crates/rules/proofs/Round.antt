@@ -1,7 +1,7 @@
 -- Reading what was written gives it back: each field stands at its place, so the header is read first, then the frame, then each body.
 -- Assumes nothing.
 use mathlib.Core.Path.{_≡_, refl, sym, ap, _∙_}
-use mathlib.Core.Bool.{Bool, true, false}
+use mathlib.Core.Bool.{Bool, true, false, false≢true}
 use mathlib.Core.List.{List, [], _∷_, _++_, append-assoc, append-nil}
 use mathlib.Core.Option.{Option, none, some}
 use Prim.Native.Nat.{ℕ, _+_, _-_, _*_, _/_, _%_, _^_, _<_, _≤_}
@@ -48,10 +48,40 @@ withDestination h d =
       destination = d;
     }
 
--- bytes that start with a header
+-- a header whose byte 3 is d
+abbrev pub headWith : ℕ → Head → Bool → Bool → ℕ → List Field → List Field
+headWith d h filedata tosender n fs =
+    nat 1 (byte0 filedata tosender (h .unacknowledged) (h .crc) (h .large))
+    ∷ nat 2 n
+    ∷ nat 1 d
+    ∷ nat (h .source .0) (h .source .1)
+    ∷ nat (h .number .0) (h .number .1)
+    ∷ nat (h .source .0) (h .destination .1)
+    ∷ fs
+
+-- bytes that start with a header; segmentation control and segment metadata flag may be set
 pub record Opens (s : List ℕ) (h : Head) (filedata tosender : Bool) (n : ℕ) (fs : List Field) : Type 0 where
-  pub at : At s 0 (headFields h filedata tosender n fs)
   pub fit : Fit h
+  pub fourth : ℕ
+  pub is-byte : fourth < 256
+  pub id-width : fourth / 16 % 8 + 1 ≡ h .source .0
+  pub seq-width : fourth % 8 + 1 ≡ h .number .0
+  pub at : At s 0 (headWith fourth h filedata tosender n fs)
+
+-- as we write it
+pub written-opens : {s : List ℕ} (h : Head) (filedata tosender : Bool) (n : ℕ) (fs : List Field) → Fit h → At s 0 (headFields h filedata tosender n fs)
+    → Opens s h filedata tosender n fs
+written-opens h filedata tosender n fs f p =
+    let i = good-range (h .source .0) (f .id-width) in
+    let q = good-range (h .number .0) (f .seq-width) in
+    record {
+      fit = f;
+      fourth = byte3 (h .source .0) (h .number .0);
+      is-byte = omega arith;
+      id-width = omega arith;
+      seq-width = omega arith;
+      at = p;
+    }
 
 bit-read : (b k : ℕ) (t : Bool) → b / k % 2 ≡ flag t → bitIn b k ≡ t
 unfolding bitIn
@@ -61,14 +91,11 @@ module _ {s : List ℕ} {h : Head} {filedata tosender : Bool} {n : ℕ} {fs : Li
   flags : (flag filedata < 2) × (flag tosender < 2) × (flag (h .unacknowledged) < 2) × (flag (h .crc) < 2) × (flag (h .large) < 2)
   flags = (flag-lt filedata, flag-lt tosender, flag-lt (h .unacknowledged), flag-lt (h .crc), flag-lt (h .large))
 
-  widths : ((0 < h .source .0) × (h .source .0 ≤ 8)) × ((0 < h .number .0) × (h .number .0 ≤ 8))
-  widths = (good-range (h .source .0) (o .fit .id-width), good-range (h .number .0) (o .fit .seq-width))
-
   b0 : byte s 0 ≡ byte0 filedata tosender (h .unacknowledged) (h .crc) (h .large)
   b0 = let z = flags in byte-at (o .at) (omega arith)
 
-  b3 : byte s 3 ≡ byte3 (h .source .0) (h .number .0)
-  b3 = let z = widths in byte-at (past (past (o .at))) (omega arith)
+  b3 : byte s 3 ≡ o .fourth
+  b3 = byte-at (past (past (o .at))) (o .is-byte)
 
   pub version-read : versionIn s ≡ 1
   unfolding versionIn
@@ -96,15 +123,15 @@ module _ {s : List ℕ} {h : Head} {filedata tosender : Bool} {n : ℕ} {fs : Li
 
   pub id-width-read : idWidthIn s ≡ h .source .0
   unfolding idWidthIn
-  id-width-read = let z = widths in rw b3 (omega arith)
+  id-width-read = rw b3 (o .id-width)
 
   pub seq-width-read : seqWidthIn s ≡ h .number .0
   unfolding seqWidthIn
-  seq-width-read = let z = widths in rw b3 (omega arith)
+  seq-width-read = rw b3 (o .seq-width)
 
-  pub length-read : n < 65536 → lengthIn s ≡ n
+  field-read : n < 65536 → lengthIn s ≡ n
   unfolding lengthIn
-  length-read l = num-at (past (o .at)) l
+  field-read l = num-at (past (o .at)) l
 
   source-read : numAt s 4 (h .source .0) ≡ h .source .1
   source-read = num-at (past (past (past (o .at)))) (o .fit .source)
@@ -132,84 +159,107 @@ module _ {s : List ℕ} {h : Head} {filedata tosender : Bool} {n : ℕ} {fs : Li
 
 -- ---- the frame, over any body and direction
 
--- what the CRC is over
-abbrev pub front : Head → Bool → Bool → List ℕ → List ℕ
-front h filedata tosender body = headBytes h filedata tosender (length body + C (h .crc)) ++ body
-
--- body and CRC
-abbrev pub dataFields : Head → Bool → Bool → List ℕ → List Field
-dataFields h filedata tosender body = raw body ∷ raw (trailer (h .crc) (front h filedata tosender body)) ∷ []
-
-pdu-at : (h : Head) (filedata tosender : Bool) (body : List ℕ)
-    → At (pduBytes h filedata tosender body) 0 (headFields h filedata tosender (length body + C (h .crc)) (dataFields h filedata tosender body))
-unfolding pduBytes headBytes
-pdu-at h filedata tosender body = record { holds = simp (append-assoc, append-nil) }
-
 length-trailer : (crc : Bool) (bs : List ℕ) → length (trailer crc bs) ≡ C crc
 unfolding trailer
 length-trailer true bs = length-be 2 (crc16 bs)
 length-trailer false bs = refl
 
-pub length-pdu : (h : Head) (filedata tosender : Bool) (body : List ℕ) → length (pduBytes h filedata tosender body) ≡ H h + (length body + C (h .crc))
-length-pdu h filedata tosender body =
-    whole-length (pdu-at h filedata tosender body) ∙ rw (length-trailer (h .crc) (front h filedata tosender body)) (omega arith)
-
 -- the last two bytes are a number, behind the bytes before them
-last-two : (bs : List ℕ) (v : ℕ) → v < 65536
+pub last-two : (bs : List ℕ) (v : ℕ) → v < 65536
     → (take (length (bs ++ be 2 v) - 2) (bs ++ be 2 v) ≡ bs) × (numAt (bs ++ be 2 v) (length (bs ++ be 2 v) - 2) 2 ≡ v)
 unfolding numAt part be
 last-two bs v h =
     let e : length (bs ++ be 2 v) - 2 ≡ length bs = simp (length-append, length-be, add-sub-cancel) in
     (rw e (take-append-seam bs (be 2 v)), rw (e, drop-append-seam) (num-be 2 v h))
 
-pub crc-over : (h : Head) (filedata tosender : Bool) (body : List ℕ) → h .crc ≡ true
-    → let s = pduBytes h filedata tosender body in numAt s (length s - 2) 2 ≡ crc16 (take (length s - 2) s)
-unfolding pduBytes trailer
-crc-over h filedata tosender body e =
-    let bs = front h filedata tosender body in
-    let t = last-two bs (crc16 bs) (crc16-lt bs) in
-    let p : bs ++ trailer (h .crc) bs ≡ bs ++ be 2 (crc16 bs) = ap (λ (c : Bool). bs ++ trailer c bs) e in
-    rw p (t .1 ∙ ap crc16 (sym (t .0)))
+crc-over : (bs : List ℕ) (crc : Bool) → crc ≡ true
+    → let s = bs ++ trailer crc bs in numAt s (length s - 2) 2 ≡ crc16 (take (length s - 2) s)
+unfolding trailer
+crc-over bs true e = let t = last-two bs (crc16 bs) (crc16-lt bs) in t .1 ∙ ap crc16 (sym (t .0))
+crc-over bs false e = absurd (false≢true e)
 
-module _ (h : Head) (filedata tosender : Bool) (body : List ℕ) (f : Fit h) where
-  pub opens : Opens (pduBytes h filedata tosender body) h filedata tosender (length body + C (h .crc)) (dataFields h filedata tosender body)
-  opens = record { at = pdu-at h filedata tosender body; fit = f }
+-- bytes that are a PDU: header, body, and the CRC over what stands before it
+pub record Frames (s : List ℕ) (h : Head) (filedata tosender : Bool) (body : List ℕ) : Type 0 where
+  pub front : List ℕ
+  pub closes : front ++ trailer (h .crc) front ≡ s
+  pub opens : Opens s h filedata tosender (length body + C (h .crc)) (raw body ∷ raw (trailer (h .crc) front) ∷ [])
+  pub short : length body + C (h .crc) < 65536
 
-  -- the length of the data field fits its two bytes
-  module _ (l : length body + C (h .crc) < 65536) where
-    end-read : endIn (pduBytes h filedata tosender body) ≡ length (pduBytes h filedata tosender body)
-    end-read = simp (h-read opens, length-read opens l, length-pdu h filedata tosender body)
+module _ {s : List ℕ} {h : Head} {filedata tosender : Bool} {body : List ℕ} (p : Frames s h filedata tosender body) where
+  pub length-read : lengthIn s ≡ length body + C (h .crc)
+  length-read = field-read (p .opens) (p .short)
 
-    pub body-read : bodyIn (pduBytes h filedata tosender body) ≡ body
-    unfolding bodyIn
-    body-read =
-        let e : H h + (length body + C (h .crc)) - C (h .crc) - H h ≡ length body = omega arith in
-        simp (h-read opens, length-read opens l, crc-read opens, e, part-at (behind-head opens))
+  whole : length s ≡ H h + (length body + C (h .crc))
+  whole = whole-length (p .opens .at) ∙ rw (length-trailer (h .crc) (p .front)) (omega arith)
 
-    crc-agrees : h .crc ≡ true → crcAgrees (pduBytes h filedata tosender body) ≡ true
-    unfolding crcAgrees
-    crc-agrees e = rw end-read (eq-eqb _ _ (crc-over h filedata tosender body e))
+  end-read : length s ≡ endIn s
+  end-read = simp (h-read (p .opens), length-read, whole)
 
-    pub well-framed-read : wellFramed (pduBytes h filedata tosender body) ≡ true
-    unfolding wellFramed
-    well-framed-read =
-        let s = pduBytes h filedata tosender body in
-        let e = length-pdu h filedata tosender body in
-        let a : ltb (length s) 4 ≡ false = le-ltb (length s) 4 (omega arith) in
-        let i = ap goodWidth (id-width-read opens) ∙ f .id-width in
-        let n = ap goodWidth (seq-width-read opens) ∙ f .seq-width in
-        simp (a, eq-eqb _ _ (version-read opens), i, n, eq-eqb _ _ (sym end-read), crc-read opens)
-        (cases (λ (b : Bool). b ≡ true) (h .crc) (pick (ltb (lengthIn s) 2) false (crcAgrees s)) true
-        (λ c. let z = ap C c in
-        let b : ltb (lengthIn s) 2 ≡ false = rw (length-read opens l) (le-ltb (length body + C (h .crc)) 2 (omega arith)) in
-        rw (b, crc-agrees c) refl) (λ c. refl))
+  pub body-end-read : bodyEnd s ≡ H h + length body
+  body-end-read = simp (h-read (p .opens), length-read, crc-read (p .opens)) (omega arith)
 
-pub decode-read : (h : Head) (filedata : Bool) (body : List ℕ) → Fit h → length body + C (h .crc) < 65536
+  pub body-read : bodyIn s ≡ body
+  unfolding bodyIn
+  body-read =
+      let e : H h + length body - H h ≡ length body = omega arith in
+      rw (body-end-read, h-read (p .opens), e) (part-at (behind-head (p .opens)))
+
+  crc-agrees : h .crc ≡ true → crcAgrees s ≡ true
+  unfolding crcAgrees
+  crc-agrees e = rw (← end-read) (eq-eqb _ _ (rw (p .closes) at (crc-over (p .front) (h .crc) e)))
+
+  pub well-framed-read : wellFramed s ≡ true
+  unfolding wellFramed
+  well-framed-read =
+      let w = whole in
+      let a : ltb (length s) 4 ≡ false = le-ltb (length s) 4 (omega arith) in
+      let i = ap goodWidth (id-width-read (p .opens)) ∙ p .opens .fit .id-width in
+      let q = ap goodWidth (seq-width-read (p .opens)) ∙ p .opens .fit .seq-width in
+      simp (a, eq-eqb _ _ (version-read (p .opens)), i, q, eq-eqb _ _ end-read, crc-read (p .opens))
+      (cases (λ (b : Bool). b ≡ true) (h .crc) (pick (ltb (lengthIn s) 2) false (crcAgrees s)) true
+      (λ c. let z = ap C c in
+      let b : ltb (lengthIn s) 2 ≡ false = rw length-read (le-ltb (length body + C (h .crc)) 2 (omega arith)) in
+      rw (b, crc-agrees c) refl) (λ c. refl))
+
+-- ---- what we write is a PDU
+
+-- what the CRC is over
+abbrev front : Head → Bool → Bool → List ℕ → List ℕ
+front h filedata tosender body = headBytes h filedata tosender (length body + C (h .crc)) ++ body
+
+pdu-at : (h : Head) (filedata tosender : Bool) (body : List ℕ)
+    → At (pduBytes h filedata tosender body) 0
+    (headFields h filedata tosender (length body + C (h .crc)) (raw body ∷ raw (trailer (h .crc) (front h filedata tosender body)) ∷ []))
+unfolding pduBytes headBytes
+pdu-at h filedata tosender body = record { holds = simp (append-assoc, append-nil) }
+
+pub length-pdu : (h : Head) (filedata tosender : Bool) (body : List ℕ) → length (pduBytes h filedata tosender body) ≡ H h + (length body + C (h .crc))
+length-pdu h filedata tosender body =
+    whole-length (pdu-at h filedata tosender body) ∙ rw (length-trailer (h .crc) (front h filedata tosender body)) (omega arith)
+
+pub pdu-opens : (h : Head) (filedata tosender : Bool) (body : List ℕ) → Fit h
+    → Opens (pduBytes h filedata tosender body) h filedata tosender (length body + C (h .crc)) (raw body ∷ raw (trailer (h .crc) (front h filedata tosender body)) ∷ [])
+pdu-opens h filedata tosender body f = written-opens h filedata tosender _ _ f (pdu-at h filedata tosender body)
+
+pub pdu-frames : (h : Head) (filedata tosender : Bool) (body : List ℕ) → Fit h → length body + C (h .crc) < 65536
+    → Frames (pduBytes h filedata tosender body) h filedata tosender body
+unfolding pduBytes
+pdu-frames h filedata tosender body f l =
+    record { front = front h filedata tosender body; closes = refl; opens = pdu-opens h filedata tosender body f; short = l }
+
+decode-read : (h : Head) (filedata : Bool) (body : List ℕ) → Fit h → length body + C (h .crc) < 65536
     → decode (pduBytes h filedata false body) ≡ withHead h (saidIn filedata (h .large) body)
 unfolding decode
 decode-read h filedata body f l =
-    let o = opens h filedata false body f in
-    simp (well-framed-read h filedata false body f l, tosender-read o, head-read o, filedata-read o, large-read o, body-read h filedata false body f l)
+    let p = pdu-frames h filedata false body f l in
+    simp (
+      well-framed-read p,
+      tosender-read (p .opens),
+      head-read (p .opens),
+      filedata-read (p .opens),
+      large-read (p .opens),
+      body-read p,
+    )
 
 -- ---- the bodies, each of any bytes that hold its layout
 
@@ -286,8 +336,8 @@ same-bytes h g m n f k y z e =
     (ap (λ (x : Pdu). x .head) p, ap (λ (x : Pdu). x .said) p)
 
 pub crc-checks : CrcChecks
-unfolding encode
-crc-checks h m f e = crc-over h (isFileData m) false (bodyBytes (h .large) m) e
+unfolding encode pduBytes
+crc-checks h m f e = crc-over (front h (isFileData m) false (bodyBytes (h .large) m)) (h .crc) e
 
 pub length-encode : (h : Head) (m : Said) → length (encode h m) ≡ pduLength h m
 unfolding encode pduLength bodyBytes
@@ -298,17 +348,17 @@ pub length-agrees : LengthAgrees
 unfolding encode
 length-agrees h m f y =
     let b = bodyBytes (h .large) m in
-    (length-encode h m, rw (length-read (opens h (isFileData m) false b f) (length-body h m y)) (sym (length-pdu h (isFileData m) false b)))
+    (length-encode h m, rw (length-read (pdu-frames h (isFileData m) false b f (length-body h m y))) (sym (length-pdu h (isFileData m) false b)))
 
 pub headers-differ : HeadersDiffer
 unfolding headBytes
 headers-differ h g a b c d n k f q l j i w e =
-    let o : Opens (headBytes h a b n) h a b n [] = record { at = at-start _ _ refl; fit = f } in
-    let p : Opens (headBytes g c d k) g c d k [] = record { at = at-start _ _ refl; fit = q } in (
+    let o = written-opens h a b n [] f (at-start (headBytes h a b n) _ refl) in
+    let p = written-opens g c d k [] q (at-start (headBytes g c d k) _ refl) in (
       sym (head-read o) ∙ ap headIn e ∙ head-read p,
       sym (filedata-read o) ∙ ap fileDataIn e ∙ filedata-read p,
       sym (tosender-read o) ∙ ap toSenderIn e ∙ tosender-read p,
-      sym (length-read o l) ∙ ap lengthIn e ∙ length-read p j,
+      sym (field-read o l) ∙ ap lengthIn e ∙ field-read p j,
     )
 
 -- ---- single questions of an observer
@@ -323,7 +373,7 @@ isEofSaid (ackFinished c t) = false
 directive : (h : Head) (v : ℕ) (fs : List Field) → v < 256 → Fit h → isEofIn (pduBytes h false false (wire (nat 1 v ∷ fs))) ≡ eqb v 4
 unfolding isEofIn
 directive h v fs l f =
-    let o = opens h false false (wire (nat 1 v ∷ fs)) f in
+    let o = pdu-opens h false false (wire (nat 1 v ∷ fs)) f in
     let e = byte-at (opened (nat 1 v ∷ fs) (behind-head o)) l in
     rw (filedata-read o, h-read o, e)
 
@@ -334,7 +384,7 @@ behind (f ∷ fs) = fs
 pub eof-seen : (h : Head) (m : Said) → Fit h → isEofIn (encode h m) ≡ isEofSaid m
 unfolding encode bodyBytes isEofIn
 eof-seen h (metadata closure k n a b) f = directive h 7 (behind (layout (h .large) (metadata closure k n a b))) (omega arith) f
-eof-seen h (fileData o bs) f = rw (filedata-read (opens h true false (bodyBytes (h .large) (fileData o bs)) f))
+eof-seen h (fileData o bs) f = rw (filedata-read (pdu-opens h true false (bodyBytes (h .large) (fileData o bs)) f))
 eof-seen h (eof c k n) f = directive h 4 (behind (layout (h .large) (eof c k n))) (omega arith) f
 eof-seen h (ackFinished c t) f = directive h 6 (behind (layout (h .large) (ackFinished c t))) (omega arith) f
 

@@ -13,13 +13,13 @@ use Rattle.basis.specs.Bytes.{byte, numAt, Bytes}
 use Rattle.rules.specs.Fields.{wire}
 use Rattle.rules.specs.Numbers.{goodWidth, H, F, C}
 use Rattle.rules.specs.Checksum.{crc16}
-use Rattle.rules.specs.Layout.{Said, metadata, fileData, eof, ackFinished, Heard, finished, ackEof, nak, keepAlive, Pdu, headBytes, layout, layoutHeard, encode, encodeHeard, pduLength}
+use Rattle.rules.specs.Layout.{Said, metadata, fileData, eof, ackFinished, Heard, finished, ackEof, nak, keepAlive, Pdu, headBytes, layout, layoutHeard, trailer, encode, encodeHeard, pduLength}
 use Rattle.rules.specs.Reading.{reserved, lengthIn, frameIn, framedIn, headIn, hIn, bodyIn, bodyOf, areTlvs, directiveIn, requestsFrom}
 use Rattle.rules.specs.Decoding.{decode, isEofIn}
 use Rattle.rules.specs.declared.Head.{Head}
 use Rattle.rules.specs.declared.Frame.{Frame}
 use Rattle.rules.specs.declared.Framed.{Framed}
-use Rattle.rules.specs.declared.Framed.the-variants.{Whole}
+use Rattle.rules.specs.declared.Framed.the-variants.{Malformed as NoFrame, Whole}
 use Rattle.rules.specs.declared.SegmentRequest.{SegmentRequest}
 use Rattle.rules.specs.declared.Meaning.{Meaning}
 use Rattle.rules.specs.declared.Meaning.the-variants.{Finished, AckOfEof, Nak, KeepAlive}
@@ -148,3 +148,24 @@ BodyExactly =
 -- LAW reserved: "Conditions 12 and 13 are reserved"
 abbrev pub ReservedExactly : Type 0
 ReservedExactly = (c : ℕ) → (reserved c ≡ true) ↔ ((c ≡ 12) ⊎ (c ≡ 13))
+
+-- "segmentation control and segment metadata flag .. are not judged": bytes with these two 0
+unfoldable pub clearedHead : List ℕ → List ℕ
+clearedHead s = set s 3 (byte s 3 / 16 % 8 * 16 + byte s 3 % 8)
+
+-- bytes that are a PDU by the layouts: header and body in front, then the CRC over these as they stand
+pub record IsPdu (s : List ℕ) (f : Frame) (body : List ℕ) : Type 0 where
+  pub fit : Fit (f .head)
+  pub short : length body + C (f .head .crc) < 65536
+  pub front : List ℕ
+  pub laid : headBytes (f .head) (f .filedata) (f .tosender) (length body + C (f .head .crc)) ++ body ≡ clearedHead front
+  pub closes : front ++ trailer (f .head .crc) front ≡ s
+  pub starts : f .start ≡ H (f .head)
+  pub ends : f .end ≡ H (f .head) + length body
+
+-- LAW frame: bytes are Malformed exactly if they are no PDU by the layouts; else their header, frame and body are read as they stand.
+abbrev pub FrameExactly : Type 0
+FrameExactly =
+    (s : List ℕ) → Bytes s
+    → ((framedIn s ≡ NoFrame) ↔ ((f : Frame) (body : List ℕ) → IsPdu s f body → ⊥))
+    × ((f : Frame) (body : List ℕ) → IsPdu s f body → (framedIn s ≡ Whole f) × (bodyIn s ≡ body))

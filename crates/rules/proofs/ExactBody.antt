@@ -100,22 +100,22 @@ comes large b _ (unread code rest k e) = rw (ap (λ (l : List ℕ). byte l 0) (s
 
 -- ---- what a body comes to, the layouts give
 
-bytes-take : (w : ℕ) (s : List ℕ) → Bytes s → Bytes (take w s)
+pub bytes-take : (w : ℕ) (s : List ℕ) → Bytes s → Bytes (take w s)
 bytes-take zero s y = tt
 bytes-take (suc w) [] y = tt
 bytes-take (suc w) (b ∷ s) y = (y .0, bytes-take w s (y .1))
 
-bytes-drop : (w : ℕ) (s : List ℕ) → Bytes s → Bytes (drop w s)
+pub bytes-drop : (w : ℕ) (s : List ℕ) → Bytes s → Bytes (drop w s)
 bytes-drop zero s y = y
 bytes-drop (suc w) [] y = tt
 bytes-drop (suc w) (b ∷ s) y = bytes-drop w s (y .1)
 
-bytes-behind : (a s : List ℕ) → Bytes (a ++ s) → Bytes s
+pub bytes-behind : (a s : List ℕ) → Bytes (a ++ s) → Bytes s
 bytes-behind [] s y = y
 bytes-behind (b ∷ a) s y = bytes-behind a s (y .1)
 
 -- in front of enough bytes stands a number
-number : (w : ℕ) (s : List ℕ) → Bytes s → w ≤ length s
+pub number : (w : ℕ) (s : List ℕ) → Bytes s → w ≤ length s
     → (v : ℕ) × (rest : List ℕ) × (v < 2 ^ (8 * w)) × (be w v ++ rest ≡ s) × Bytes rest × (length rest ≡ length s - w)
 number w s y l =
     let t = bytes-take w s y in
