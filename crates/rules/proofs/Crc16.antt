@@ -1,12 +1,10 @@
 -- A CRC-16 has 16 bits: each step keeps 16 and adds a polynomial of 16.
 -- Assumes nothing.
-use mathlib.Core.Bool.{Bool, true, false}
 use mathlib.Core.List.{List, [], _∷_}
 use Prim.Native.Nat.{ℕ, zero, suc, _*_, _%_, _<_}
 use native.Mathlib.Omega.{arith}
 use lib.Bits.{bitXor, xor-lt}
 use lib.Dec.{ltb}
-use Rattle.basis.specs.Pick.{pick}
 use Rattle.basis.proofs.Pick.{cases}
 use Rattle.rules.specs.Checksum.{crc16Bit, crc16Bits, crc16Byte, crc16From, crc16}
 

@@ -1,31 +1,31 @@
 -- A body is read by the layouts and by nothing else: each test that the reading makes is turned into the field that must stand there.
 -- Assumes nothing.
-use mathlib.Core.Path.{_≡_, refl, sym, ap, subst, _∙_}
-use mathlib.Core.Logic.{_↔_, _⊎_, inl, inr}
+use mathlib.Core.Path.{_≡_, refl, sym, ap, _∙_}
+use mathlib.Core.Logic.{_⊎_, inl, inr}
 use mathlib.Core.Bool.{Bool, true, false, false≢true}
 use mathlib.Core.List.{List, [], _∷_, _++_, append-nil}
 use Prim.Native.Nat.{ℕ, zero, suc, _+_, _-_, _*_, _/_, _%_, _^_, _<_, _≤_}
 use native.Mathlib.Nat.{div-add-mod}
 use native.Mathlib.Omega.{arith}
-use lib.ListN.{length, take, drop, set, take-append-drop, length-take, length-drop, length-append}
+use lib.ListN.{length, take, drop, set, take-append-drop, length-take, length-drop}
 use lib.Seq.{take-length}
 use lib.Dec.{eqb, ltb}
-use borrow.Author.Tests.{eqb-true, eqb-false, ltb-false, eq-eqb, ne-eqb}
+use borrow.Author.Tests.{eqb-true, ltb-false}
 use Rattle.basis.specs.Pick.{pick}
 use Rattle.basis.specs.Bytes.{be, num, part, byte, numAt, Bytes}
 use Rattle.basis.proofs.Pick.{cases}
 use Rattle.basis.proofs.Bytes.{be-num, num-lt}
-use Rattle.rules.specs.Fields.{wire, sizes}
+use Rattle.rules.specs.Fields.{wire}
 use Rattle.rules.specs.Numbers.{F}
-use Rattle.rules.specs.Layout.{ackFinished, Heard, finished, ackEof, nak, keepAlive, layout, layoutHeard, tlvFields, requestFields}
+use Rattle.rules.specs.Layout.{ackFinished, finished, ackEof, nak, keepAlive, layout, layoutHeard, tlvFields, requestFields}
 use Rattle.rules.specs.Reading.{reserved, areTlvs, finishedParams, finishedIn, ackIn, requestCount, nakIn, keepAliveIn, directiveIn}
-use Rattle.rules.specs.PduLaws.{GoodTlvs, RequestsFit, Hearable, meaningOf, Tlvs, end, tlv, cleared, ByLayout, heard, ofFinished, unread, BodyExactly, ReservedExactly}
+use Rattle.rules.specs.PduLaws.{GoodTlvs, RequestsFit, Tlvs, end, tlv, cleared, ByLayout, heard, ofFinished, unread, BodyExactly, ReservedExactly}
 use Rattle.rules.specs.declared.SegmentRequest.{SegmentRequest}
 use Rattle.rules.specs.declared.Meaning.the-variants.{Finished, AckOfEof, Nak, KeepAlive}
 use Rattle.rules.specs.declared.Body.{Body}
 use Rattle.rules.specs.declared.Body.the-variants.{Malformed, CantProcess, Means}
 use Rattle.rules.proofs.Places.{At, at-start, past, byte-at, whole-length}
-use Rattle.rules.proofs.Heard.{tlvs-exactly, one-byte, nak-read, keep-alive-read, heard-body}
+use Rattle.rules.proofs.Heard.{tlvs-exactly, one-byte, heard-body}
 
 pub reserved-exactly : ReservedExactly
 unfolding reserved
@@ -100,7 +100,7 @@ comes large b _ (unread code rest k e) = rw (ap (λ (l : List ℕ). byte l 0) (s
 
 -- ---- what a body comes to, the layouts give
 
-pub bytes-take : (w : ℕ) (s : List ℕ) → Bytes s → Bytes (take w s)
+bytes-take : (w : ℕ) (s : List ℕ) → Bytes s → Bytes (take w s)
 bytes-take zero s y = tt
 bytes-take (suc w) [] y = tt
 bytes-take (suc w) (b ∷ s) y = (y .0, bytes-take w s (y .1))
@@ -110,7 +110,7 @@ bytes-drop zero s y = y
 bytes-drop (suc w) [] y = tt
 bytes-drop (suc w) (b ∷ s) y = bytes-drop w s (y .1)
 
-pub bytes-behind : (a s : List ℕ) → Bytes (a ++ s) → Bytes s
+bytes-behind : (a s : List ℕ) → Bytes (a ++ s) → Bytes s
 bytes-behind [] s y = y
 bytes-behind (b ∷ a) s y = bytes-behind a s (y .1)
 

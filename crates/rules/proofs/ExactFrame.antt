@@ -1,32 +1,30 @@
 -- Bytes are a frame exactly if they are a PDU by the layouts: what the tests say of the header's bytes is what the writer puts there.
 -- Assumes nothing.
 use mathlib.Core.Path.{_≡_, refl, sym, ap, ap₂, subst, _∙_}
-use mathlib.Core.Logic.{_↔_, _⊎_, inl, inr}
 use mathlib.Core.Bool.{Bool, true, false, false≢true}
 use mathlib.Core.List.{List, [], _∷_, _++_, append-nil, append-assoc}
 use Prim.Native.Nat.{ℕ, zero, suc, _+_, _-_, _*_, _/_, _%_, _^_, _<_, _≤_}
 use native.Mathlib.Nat.{mod-eq-of-lt}
 use native.Mathlib.Omega.{arith}
-use lib.ListN.{length, take, drop, set, length-append, take-append-drop, length-take, length-drop}
+use lib.ListN.{length, take, drop, take-append-drop, length-take, length-drop}
 use lib.Dec.{eqb, ltb}
 use borrow.Author.Tests.{eqb-true, ltb-false}
 use Rattle.basis.specs.Pick.{pick, flag}
 use Rattle.basis.specs.Bytes.{be, num, part, byte, numAt, Bytes}
-use Rattle.basis.proofs.Pick.{cases, flag-lt}
-use Rattle.basis.proofs.Bytes.{length-be}
+use Rattle.basis.proofs.Pick.{cases}
 use Rattle.rules.specs.Fields.{Field, nat, raw, wire}
 use Rattle.rules.specs.Numbers.{goodWidth, H, C}
 use Rattle.rules.specs.Checksum.{crc16}
 use Rattle.rules.specs.Layout.{byte0, byte3, headFields, headBytes, trailer}
-use Rattle.rules.specs.Reading.{bitIn, versionIn, fileDataIn, toSenderIn, unacknowledgedIn, crcIn, largeIn, lengthIn, idWidthIn, seqWidthIn, headIn, hIn, endIn, crcAgrees, wellFramed, frameIn, framedIn, bodyEnd, bodyIn}
+use Rattle.rules.specs.Reading.{bitIn, versionIn, crcIn, lengthIn, idWidthIn, seqWidthIn, endIn, crcAgrees, wellFramed, frameIn, framedIn, bodyIn}
 use Rattle.rules.specs.PduLaws.{Fit, clearedHead, IsPdu, FrameExactly}
 use Rattle.rules.specs.declared.Head.{Head}
 use Rattle.rules.specs.declared.Frame.{Frame}
 use Rattle.rules.specs.declared.Framed.{Framed}
 use Rattle.rules.specs.declared.Framed.the-variants.{Malformed, Whole}
-use Rattle.rules.proofs.Places.{At, past, num-at, byte-at}
-use Rattle.rules.proofs.Round.{headWith, Opens, Frames, good-range, last-two, filedata-read, tosender-read, head-read, h-read, body-end-read, body-read, well-framed-read}
-use Rattle.rules.proofs.ExactBody.{bytes-take, bytes-drop, bytes-behind, number}
+use Rattle.rules.proofs.Places.{wire-append}
+use Rattle.rules.proofs.Round.{headWith, Frames, good-range, last-two, filedata-read, tosender-read, head-read, h-read, body-end-read, body-read, well-framed-read}
+use Rattle.rules.proofs.ExactBody.{bytes-drop, number}
 
 -- ---- a PDU is read as it stands
 
@@ -50,9 +48,13 @@ fourth (x ∷ z ∷ []) a b c e r q y = absurd (false≢true (cc q))
 fourth (x ∷ z ∷ u ∷ []) a b c e r q y = absurd (false≢true (cc q))
 fourth (x ∷ z ∷ u ∷ d ∷ t) a b c e r q y = (d, y .1 .1 .1 .0, cc q, cc q)
 
+-- bytes behind a layout are its last field
+also : (fs : List Field) (t : List ℕ) → wire fs ++ t ≡ wire (fs ++ (raw t ∷ []))
+also fs t = ap (λ (l : List ℕ). wire fs ++ l) (sym (append-nil t)) ∙ sym (wire-append fs (raw t ∷ []))
+
 head-and : (h : Head) (filedata tosender : Bool) (n : ℕ) (body : List ℕ) → headBytes h filedata tosender n ++ body ≡ wire (headFields h filedata tosender n (raw body ∷ []))
 unfolding headBytes
-head-and h filedata tosender n body = simp (append-assoc, append-nil)
+head-and h filedata tosender n body = also (headFields h filedata tosender n []) body
 
 bytes-front : (a s : List ℕ) → Bytes (a ++ s) → Bytes a
 bytes-front [] s y = tt
@@ -74,6 +76,7 @@ frames {s} {f} {body} y p =
     let i = good-range (h .source .0) (p .fit .id-width) in
     let q = good-range (h .number .0) (p .fit .seq-width) in
     let r = idFields h (raw body ∷ []) in
+    let t = trailer (h .crc) (p .front) in
     let e = sym (four x n (byte3 (h .source .0) (h .number .0)) r (omega arith)) ∙ sym (head-and h (f .filedata) (f .tosender) n body) ∙ p .laid in
     let b = bytes-front (p .front) (trailer (h .crc) (p .front)) (subst Bytes (sym (p .closes)) y) in
     let d = fourth (p .front) _ _ _ _ _ e b in
@@ -88,7 +91,7 @@ frames {s} {f} {body} y p =
         id-width = w .0;
         seq-width = w .1;
         at = record {
-          holds = sym (p .closes) ∙ ap (λ (l : List ℕ). l ++ trailer (h .crc) (p .front)) (sym (d .3) ∙ sym (four x n (d .0) r (d .1))) ∙ simp (append-assoc, append-nil);
+          holds = sym (p .closes) ∙ ap (λ (l : List ℕ). l ++ t) (sym (d .3) ∙ sym (four x n (d .0) r (d .1))) ∙ also (headWith (d .0) h (f .filedata) (f .tosender) n (raw body ∷ [])) t;
         };
       };
       short = p .short;
@@ -99,8 +102,7 @@ unfolding framedIn frameIn
 read-as-it-stands s y f body p =
     let q = frames y p in
     let o = q .opens in
-    let at : ℕ → ℕ → Framed = λ i e. Whole (record { head = f .head; filedata = f .filedata; tosender = f .tosender; start = i; end = e }) in
-    (
+    let at : ℕ → ℕ → Framed = λ i e. Whole (record { head = f .head; filedata = f .filedata; tosender = f .tosender; start = i; end = e }) in (
       rw (well-framed-read q, head-read o, filedata-read o, tosender-read o, body-end-read q, h-read o) (ap₂ at (sym (p .starts)) (sym (p .ends))),
       body-read q,
     )
@@ -163,13 +165,13 @@ first-byte x e =
 
 -- three numbers stand in front of enough bytes
 numbers : (w q : ℕ) (r : List ℕ) → Bytes r → 2 * w + q ≤ length r
-    → (u v z : ℕ) × (rest : List ℕ) × (u < 2 ^ (8 * w)) × (v < 2 ^ (8 * q)) × (z < 2 ^ (8 * w)) × (be w u ++ (be q v ++ (be w z ++ rest)) ≡ r)
+    → (u v z : ℕ) × (rest : List ℕ) × (u < 2 ^ (8 * w)) × (v < 2 ^ (8 * q)) × (z < 2 ^ (8 * w)) × (be w u ++ (be q v ++ (be w z ++ (rest ++ []))) ≡ r)
     × Bytes rest × (length r ≡ 2 * w + q + length rest)
 numbers w q r y l =
     let a = number w r y (omega arith) in
     let b = number q (a .1) (a .4) (omega (arith, a .5)) in
     let c = number w (b .1) (b .4) (omega (arith, a .5, b .5)) in
-    (a .0, b .0, c .0, c .1, a .2, b .2, c .2, rw (c .3, b .3) (a .3), c .4, omega (arith, a .5, b .5, c .5))
+    (a .0, b .0, c .0, c .1, a .2, b .2, c .2, rw (append-nil (c .1), c .3, b .3) (a .3), c .4, omega (arith, a .5, b .5, c .5))
 
 empty : (l : List ℕ) → length l ≡ 0 → l ≡ []
 empty [] e = refl
@@ -241,22 +243,29 @@ made a b c d u v z body s f l e n t =
       ends = refl;
     }
 
+numbered : (a b c d u v z : ℕ) (r rest : List ℕ) → let h = headOf a d u v z in
+    Fit h → (a < 256) × (b < 256) × (c < 256) → Tests (a ∷ b ∷ c ∷ d ∷ r) → wire (idFields h (raw rest ∷ [])) ≡ r → Bytes rest → length rest ≡ b * 256 + c
+    → (f : Frame) × (body : List ℕ) × IsPdu (a ∷ b ∷ c ∷ d ∷ r) f body
+unfolding versionIn crcIn lengthIn byte numAt part num
+numbered a b c d u v z r rest f l t e y k =
+    let h = headOf a d u v z in
+    let s = a ∷ b ∷ c ∷ d ∷ r in
+    let j : (a ∷ b ∷ c ∷ d ∷ wire (idFields h [])) ++ rest ≡ s = rw (← e) (simp (append-assoc, append-nil)) in
+    let p =
+    closing (h .crc) s (a ∷ b ∷ c ∷ d ∷ wire (idFields h [])) rest (b * 256 + c) y j k (t .whole) (λ x. let g = t .checks x in (omega (arith, g .0), g .1)) in
+    (frameOf a h (p .0), p .0, made a b c d u v z (p .0) s f l (t .version) (p .1) (p .2))
+
 is-pdu : (a b c d : ℕ) (r : List ℕ) → Bytes (a ∷ b ∷ c ∷ d ∷ r) → Tests (a ∷ b ∷ c ∷ d ∷ r)
     → (f : Frame) × (body : List ℕ) × IsPdu (a ∷ b ∷ c ∷ d ∷ r) f body
-unfolding versionIn crcIn lengthIn idWidthIn seqWidthIn byte numAt part num
+unfolding lengthIn idWidthIn seqWidthIn byte numAt part num
 is-pdu a b c d r y t =
     let w = d / 16 % 8 + 1 in
     let q = d % 8 + 1 in
     let l : length r ≡ 2 * w + q + (b * 256 + c) = omega (arith, t .whole) in
     let m = numbers w q r (y .1 .1 .1 .1) (omega arith) in
-    let h = headOf a d (m .0) (m .1) (m .2) in
-    let k : length (m .3) ≡ b * 256 + c = omega (arith, m .9) in
-    let j : (a ∷ b ∷ c ∷ d ∷ wire (idFields h [])) ++ m .3 ≡ a ∷ b ∷ c ∷ d ∷ r = simp append-assoc (ap (λ (z : List ℕ). a ∷ b ∷ c ∷ d ∷ z) (m .7)) in
-    let z =
-    closing (bitIn a 2) (a ∷ b ∷ c ∷ d ∷ r) (a ∷ b ∷ c ∷ d ∷ wire (idFields h [])) (m .3) (b * 256 + c) (m .8) j k (t .whole)
-    (λ x. let g = t .checks x in (omega (arith, g .0), g .1)) in
-    let f : Fit h = record { id-width = t .id-width; one-width = refl; seq-width = t .seq-width; source = m .4; number = m .5; destination = m .6 } in
-    (frameOf a h (z .0), z .0, made a b c d (m .0) (m .1) (m .2) (z .0) (a ∷ b ∷ c ∷ d ∷ r) f (y .0, y .1 .0, y .1 .1 .0) (t .version) (z .1) (z .2))
+    numbered a b c d (m .0) (m .1) (m .2) r (m .3)
+    (record { id-width = t .id-width; one-width = refl {a = w}; seq-width = t .seq-width; source = m .4; number = m .5; destination = m .6 })
+    (y .0, y .1 .0, y .1 .1 .0) t (m .7) (m .8) (omega (arith, m .9))
 
 some-pdu : (s : List ℕ) → Bytes s → Tests s → (f : Frame) × (body : List ℕ) × IsPdu s f body
 some-pdu [] y t = absurd (omega (arith, t .long))
@@ -267,11 +276,10 @@ some-pdu (a ∷ b ∷ c ∷ d ∷ r) y t = is-pdu a b c d r y t
 
 pub frame-exactly : FrameExactly
 unfolding framedIn
-frame-exactly s y =
-    (
-      (
-        λ e f body p. false≢true (cc (e, read-as-it-stands s y f body p .0)),
-        λ n. cases (λ (x : Framed). x ≡ Malformed) (wellFramed s) _ _ (λ t. let p = some-pdu s y (tests s t) in absurd (n (p .0) (p .1) (p .2))) (λ t. refl),
-      ),
-      read-as-it-stands s y,
-    )
+frame-exactly s y = (
+  (
+    λ e f body p. false≢true (cc (e, read-as-it-stands s y f body p .0)),
+    λ n. cases (λ (x : Framed). x ≡ Malformed) (wellFramed s) _ _ (λ t. let p = some-pdu s y (tests s t) in absurd (n (p .0) (p .1) (p .2))) (λ t. refl),
+  ),
+  read-as-it-stands s y,
+)

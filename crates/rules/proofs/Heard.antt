@@ -1,30 +1,28 @@
 -- What a peer writes by the layouts is read with the peer's meaning: the frame's laws, then each body by its places. The test of TLVs
 -- says yes exactly to the grammar's runs, by what is still to come where the test stands.
 -- Assumes nothing.
-use mathlib.Core.Path.{_≡_, refl, sym, ap, subst, _∙_}
-use mathlib.Core.Logic.{_↔_, _⊎_, inl, inr}
+use mathlib.Core.Path.{_≡_, refl, ap, subst, _∙_}
+use mathlib.Core.Logic.{_⊎_, inl, inr}
 use mathlib.Core.Bool.{Bool, true, false, false≢true}
 use mathlib.Core.List.{List, [], _∷_, _++_}
-use Prim.Native.Nat.{ℕ, zero, suc, _+_, _-_, _*_, _/_, _%_, _^_, _<_}
+use Prim.Native.Nat.{ℕ, zero, suc, _+_, _-_, _*_, _/_, _%_, _<_}
 use native.Mathlib.Nat.{mul-div-cancel-left, mul-mod-right}
 use native.Mathlib.Omega.{arith}
-use lib.ListN.{length, drop}
+use lib.ListN.{length}
 use lib.Dec.{eqb, ltb}
 use borrow.Author.Tests.{eqb-true, eq-eqb, ne-eqb, le-ltb}
-use Rattle.basis.specs.Pick.{pick, flag}
-use Rattle.basis.specs.Bytes.{be, byte, numAt}
+use Rattle.basis.specs.Bytes.{be, byte}
 use Rattle.basis.proofs.Pick.{cases}
-use Rattle.rules.specs.Fields.{Field, nat, raw, wire, sizes}
-use Rattle.rules.specs.Numbers.{H, F, C}
+use Rattle.rules.specs.Fields.{Field, wire, sizes}
+use Rattle.rules.specs.Numbers.{H, F}
 use Rattle.rules.specs.Layout.{Heard, finished, ackEof, nak, keepAlive, tlvFields, requestFields, layoutHeard, encodeHeard}
-use Rattle.rules.specs.Reading.{reserved, Tlv, atType, atLength, inValue, broken, valueOf, tlvNext, tlvAfter, closed, areTlvs, finishedParams, finishedIn, ackIn, requestCount, nakIn, keepAliveIn, directiveIn, directed, bodyOf, requestAt, requestsFrom, frameIn, framedIn, bodyIn}
-use Rattle.rules.specs.PduLaws.{Fit, GoodTlvs, RequestsFit, Hearable, meaningOf, requestsOf, firstPair, HeardRead, Tlvs, end, tlv, TlvsExactly}
+use Rattle.rules.specs.Reading.{Tlv, atType, atLength, inValue, broken, valueOf, tlvNext, tlvAfter, closed, areTlvs, finishedParams, finishedIn, ackIn, requestCount, nakIn, keepAliveIn, directiveIn, bodyOf, requestAt, requestsFrom, frameIn, framedIn}
+use Rattle.rules.specs.PduLaws.{GoodTlvs, RequestsFit, Hearable, meaningOf, requestsOf, firstPair, HeardRead, Tlvs, end, tlv, TlvsExactly}
 use Rattle.rules.specs.declared.Head.{Head}
 use Rattle.rules.specs.declared.SegmentRequest.{SegmentRequest}
-use Rattle.rules.specs.declared.Body.{Body}
 use Rattle.rules.specs.declared.Body.the-variants.{Means}
 use Rattle.rules.proofs.Places.{At, at-start, past, num-at, byte-at, whole-length, opened, length-wire}
-use Rattle.rules.proofs.Round.{Frames, Opens, pdu-frames, filedata-read, tosender-read, large-read, head-read, behind-head, body-read, well-framed-read}
+use Rattle.rules.proofs.Round.{pdu-frames, filedata-read, tosender-read, head-read, behind-head, body-read, well-framed-read}
 
 -- ---- TLVs: what the grammar derives, the test takes
 
@@ -126,7 +124,7 @@ sizes-requests : (large : Bool) (rs : List SegmentRequest) → sizes (requestFie
 sizes-requests large [] = omega arith
 sizes-requests large (r ∷ rs) = let i = sizes-requests large rs in omega arith
 
-pub nak-read : {b : List ℕ} (large : Bool) (x y : ℕ) (rs : List SegmentRequest) → At b 0 (layoutHeard large (nak x y rs))
+nak-read : {b : List ℕ} (large : Bool) (x y : ℕ) (rs : List SegmentRequest) → At b 0 (layoutHeard large (nak x y rs))
     → nakIn large b ≡ Means (meaningOf (nak x y rs))
 unfolding nakIn requestCount
 nak-read {b} large x y rs p =
@@ -138,7 +136,7 @@ nak-read {b} large x y rs p =
     let m : 2 * F large * length rs % (2 * F large) ≡ 0 = mul-mod-right (2 * F large) (length rs) in
     simp (l, q, n, m)
 
-pub keep-alive-read : {b : List ℕ} (large : Bool) (n : ℕ) → At b 0 (layoutHeard large (keepAlive n)) → Hearable large (keepAlive n)
+keep-alive-read : {b : List ℕ} (large : Bool) (n : ℕ) → At b 0 (layoutHeard large (keepAlive n)) → Hearable large (keepAlive n)
     → keepAliveIn large b ≡ Means (meaningOf (keepAlive n))
 unfolding keepAliveIn
 keep-alive-read {b} large n p h =

@@ -1,9 +1,10 @@
 -- Reading what was written gives it back: each field stands at its place, so the header is read first, then the frame, then each body.
 -- Assumes nothing.
 use mathlib.Core.Path.{_≡_, refl, sym, ap, _∙_}
+use mathlib.Core.Logic.{_⊎_, inl, inr}
 use mathlib.Core.Bool.{Bool, true, false, false≢true}
 use mathlib.Core.List.{List, [], _∷_, _++_, append-assoc, append-nil}
-use mathlib.Core.Option.{Option, none, some}
+use mathlib.Core.Option.{some}
 use Prim.Native.Nat.{ℕ, _+_, _-_, _*_, _/_, _%_, _^_, _<_, _≤_}
 use native.Mathlib.Nat.{add-sub-cancel, zero-add}
 use native.Mathlib.Omega.{arith}
@@ -12,16 +13,16 @@ use lib.Dec.{eqb, leb, ltb}
 use lib.Seq.{take-append-seam, drop-append-seam}
 use borrow.Author.Tests.{eqb-true, ltb-false, eq-eqb, le-leb, le-ltb}
 use Rattle.basis.specs.Pick.{pick, flag}
-use Rattle.basis.specs.Bytes.{be, num, part, byte, numAt}
+use Rattle.basis.specs.Bytes.{be, part, byte, numAt}
 use Rattle.basis.proofs.Pick.{cases, flag-lt, eqb-flag}
 use Rattle.basis.proofs.Bytes.{length-be, num-be}
-use Rattle.rules.specs.Fields.{Field, nat, raw, size, wire, sizes}
+use Rattle.rules.specs.Fields.{Field, nat, raw, wire}
 use Rattle.rules.specs.Numbers.{goodWidth, H, F, C, isLarge}
 use Rattle.rules.specs.Checksum.{crc16}
 use Rattle.rules.specs.Layout.{Said, metadata, fileData, eof, ackFinished, byte0, byte3, headFields, headBytes, layout, trailer, pduBytes, isFileData, Pdu, bodyBytes, encode, pduLength}
 use Rattle.rules.specs.Reading.{bitIn, versionIn, fileDataIn, toSenderIn, unacknowledgedIn, crcIn, largeIn, lengthIn, idWidthIn, seqWidthIn, headIn, hIn, endIn, crcAgrees, wellFramed, bodyEnd, bodyIn}
 use Rattle.rules.specs.Decoding.{metadataIn, dataIn, eofIn, ackFinishedIn, saidIn, withHead, decode, isEofIn, fileDataOf}
-use Rattle.rules.specs.PduLaws.{Fit, Sayable, RoundTrip, SameBytes, CrcChecks, LengthAgrees, HeadersDiffer}
+use Rattle.rules.specs.PduLaws.{Fit, Sayable, RoundTrip, SameBytes, CrcChecks, LengthAgrees, HeadersDiffer, WidthsExactly}
 use Rattle.rules.specs.declared.Head.{Head}
 use Rattle.rules.specs.declared.EntityId.{EntityId}
 use Rattle.rules.proofs.Places.{At, at-start, past, part-at, num-at, byte-at, rest-at, whole-length, opened, length-wire}
@@ -29,13 +30,30 @@ use Rattle.rules.proofs.Crc16.{crc16-lt}
 
 -- ---- the header
 
-pub good-range : (w : ℕ) → goodWidth w ≡ true → (0 < w) × (w ≤ 8)
+pub widths-exactly : WidthsExactly
 unfolding goodWidth
-good-range w =
-    let P : Bool → Type 0 = λ (b : Bool). b ≡ true → (0 < w) × (w ≤ 8) in
-    cases P (eqb w 1) _ _ (λ e h. let z = eqb-true w 1 e in omega arith)
-    (λ n. cases P (eqb w 2) _ _ (λ e h. let z = eqb-true w 2 e in omega arith)
-    (λ n. cases P (eqb w 4) _ _ (λ e h. let z = eqb-true w 4 e in omega arith) (λ n h. let z = eqb-true w 8 h in omega arith)))
+widths-exactly w =
+    let P : Bool → Type 0 = λ (b : Bool). b ≡ true → (w ≡ 1) ⊎ (w ≡ 2) ⊎ (w ≡ 4) ⊎ (w ≡ 8) in (
+      cases P (eqb w 1) _ _ (λ e t. inl (eqb-true w 1 e))
+          (λ n. cases P (eqb w 2) _ _ (λ e t. inr (inl (eqb-true w 2 e)))
+          (λ n. cases P (eqb w 4) _ _ (λ e t. inr (inr (inl (eqb-true w 4 e)))) (λ n t. inr (inr (inr (eqb-true w 8 t)))))),
+      good,
+    )
+  where
+    good : (w ≡ 1) ⊎ (w ≡ 2) ⊎ (w ≡ 4) ⊎ (w ≡ 8) → goodWidth w ≡ true
+    good (inl e) = rw e
+    good (inr (inl e)) = rw e
+    good (inr (inr (inl e))) = rw e
+    good (inr (inr (inr e))) = rw e
+
+pub good-range : (w : ℕ) → goodWidth w ≡ true → (0 < w) × (w ≤ 8)
+good-range w t = go (widths-exactly w .0 t)
+  where
+    go : (w ≡ 1) ⊎ (w ≡ 2) ⊎ (w ≡ 4) ⊎ (w ≡ 8) → (0 < w) × (w ≤ 8)
+    go (inl e) = omega arith
+    go (inr (inl e)) = omega arith
+    go (inr (inr (inl e))) = omega arith
+    go (inr (inr (inr e))) = omega arith
 
 abbrev withDestination : Head → EntityId → Head
 withDestination h d =

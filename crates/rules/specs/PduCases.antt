@@ -3,13 +3,13 @@
 use mathlib.Core.Path.{_≡_, refl}
 use mathlib.Core.Bool.{Bool, true, false}
 use mathlib.Core.List.{List, [], _∷_, map}
-use mathlib.Core.Option.{Option, some}
+use mathlib.Core.Option.{none, some}
 use Prim.Native.Nat.{ℕ}
 use lib.ListN.{length}
 use Rattle.basis.specs.Bytes.{be, num, part, byte, numAt}
 use Rattle.rules.specs.Numbers.{goodWidth}
 use Rattle.rules.specs.Checksum.{crc16, crc16Byte}
-use Rattle.rules.specs.Layout.{Said, metadata, fileData, eof, ackFinished, Pdu, headBytes, trailer, pduBytes, bodyBytes, encode}
+use Rattle.rules.specs.Layout.{metadata, fileData, eof, ackFinished, Pdu, headBytes, trailer, pduBytes, bodyBytes, encode}
 use Rattle.rules.specs.Reading.{bitIn, versionIn, fileDataIn, toSenderIn, unacknowledgedIn, crcIn, largeIn, lengthIn, idWidthIn, seqWidthIn, headIn, crcAgrees, wellFramed, frameIn, framedIn, bodyIn, reserved, areTlvs, finishedParams, finishedIn, ackIn, requestCount, nakIn, keepAliveIn, directiveIn, bodyOf}
 use Rattle.rules.specs.Decoding.{metadataIn, dataIn, eofIn, ackFinishedIn, saidIn, decode}
 use Rattle.rules.specs.declared.Head.{Head}
@@ -60,6 +60,22 @@ written = refl
 pub read : map decode onTheLink ≡ map some sent
 unfolding num part byte numAt goodWidth bitIn versionIn fileDataIn toSenderIn unacknowledgedIn crcIn largeIn lengthIn idWidthIn seqWidthIn headIn bodyIn crcAgrees wellFramed metadataIn dataIn eofIn ackFinishedIn saidIn decode crc16 crc16Byte
 read = refl
+
+-- what is no sender's PDU: M1 whose second name ends behind the body; M4 with a byte more; M8 with subtype 0, and towards the sender;
+-- file data that ends inside its offset; another code
+abbrev pub noPdu : List (List ℕ)
+noPdu =
+    (0x24 ∷ 0x00 ∷ 0x0A ∷ 0x00 ∷ 0x01 ∷ 0x07 ∷ 0x02 ∷ 0x07 ∷ 0x00 ∷ 0x00 ∷ 0x00 ∷ 0x00 ∷ 0x05 ∷ 0x01 ∷ 0x61 ∷ 0x02 ∷ 0x62 ∷ [])
+    ∷ (0x24 ∷ 0x00 ∷ 0x0B ∷ 0x00 ∷ 0x01 ∷ 0x07 ∷ 0x02 ∷ 0x04 ∷ 0x00 ∷ 0x86 ∷ 0x42 ∷ 0x43 ∷ 0x44 ∷ 0x00 ∷ 0x00 ∷ 0x00 ∷ 0x05 ∷ 0x00 ∷ [])
+    ∷ (0x20 ∷ 0x00 ∷ 0x03 ∷ 0x00 ∷ 0x01 ∷ 0x07 ∷ 0x02 ∷ 0x06 ∷ 0x50 ∷ 0x01 ∷ [])
+    ∷ (0x28 ∷ 0x00 ∷ 0x03 ∷ 0x00 ∷ 0x01 ∷ 0x07 ∷ 0x02 ∷ 0x06 ∷ 0x51 ∷ 0x01 ∷ [])
+    ∷ (0x34 ∷ 0x00 ∷ 0x03 ∷ 0x00 ∷ 0x01 ∷ 0x07 ∷ 0x02 ∷ 0x00 ∷ 0x00 ∷ 0x00 ∷ [])
+    ∷ (0x20 ∷ 0x00 ∷ 0x02 ∷ 0x00 ∷ 0x01 ∷ 0x07 ∷ 0x02 ∷ 0x05 ∷ 0x00 ∷ [])
+    ∷ []
+
+pub unread : map decode noPdu ≡ map (λ (s : List ℕ). none) noPdu
+unfolding num part byte numAt goodWidth bitIn versionIn fileDataIn toSenderIn unacknowledgedIn crcIn largeIn lengthIn idWidthIn seqWidthIn headIn bodyIn crcAgrees wellFramed metadataIn dataIn eofIn ackFinishedIn saidIn decode
+unread = refl
 
 -- ---- deliveries, and what each comes to
 
@@ -116,12 +132,15 @@ deliveries =
     -- towards the receiver: an ACK of EOF, and one that is Malformed all the same
     ∷ (0x20 ∷ 0x00 ∷ 0x03 ∷ 0x00 ∷ 0x01 ∷ 0x07 ∷ 0x02 ∷ 0x06 ∷ 0x40 ∷ 0x01 ∷ [], CantProcess)
     ∷ (0x20 ∷ 0x00 ∷ 0x03 ∷ 0x00 ∷ 0x01 ∷ 0x07 ∷ 0x02 ∷ 0x06 ∷ 0x41 ∷ 0x01 ∷ [], Malformed)
-    -- mode bit, segmentation control and segment metadata flag set; version 2; an id width of 3; a length one more, one less
+    -- mode bit, segmentation control and segment metadata flag set; versions 2 and 3; an id width of 3;
+    -- a length one more, one less; a byte behind; a header cut short
     ∷ (0x2C ∷ 0x00 ∷ 0x03 ∷ 0x88 ∷ 0x01 ∷ 0x07 ∷ 0x02 ∷ 0x06 ∷ 0x40 ∷ 0x01 ∷ [], Means AckOfEof)
     ∷ (0x48 ∷ 0x00 ∷ 0x03 ∷ 0x00 ∷ 0x01 ∷ 0x07 ∷ 0x02 ∷ 0x06 ∷ 0x40 ∷ 0x01 ∷ [], Malformed)
+    ∷ (0x68 ∷ 0x00 ∷ 0x03 ∷ 0x00 ∷ 0x01 ∷ 0x07 ∷ 0x02 ∷ 0x06 ∷ 0x40 ∷ 0x01 ∷ [], Malformed)
     ∷ (0x28 ∷ 0x00 ∷ 0x03 ∷ 0x20 ∷ 0x00 ∷ 0x00 ∷ 0x01 ∷ 0x07 ∷ 0x00 ∷ 0x00 ∷ 0x02 ∷ 0x06 ∷ 0x40 ∷ 0x01 ∷ [], Malformed)
     ∷ (0x28 ∷ 0x00 ∷ 0x04 ∷ 0x00 ∷ 0x01 ∷ 0x07 ∷ 0x02 ∷ 0x06 ∷ 0x40 ∷ 0x01 ∷ [], Malformed)
     ∷ (0x28 ∷ 0x00 ∷ 0x02 ∷ 0x00 ∷ 0x01 ∷ 0x07 ∷ 0x02 ∷ 0x06 ∷ 0x40 ∷ 0x01 ∷ [], Malformed)
+    ∷ (0x28 ∷ 0x00 ∷ 0x03 ∷ 0x00 ∷ 0x01 ∷ 0x07 ∷ 0x02 ∷ 0x06 ∷ 0x40 ∷ 0x01 ∷ 0x00 ∷ [], Malformed)
     ∷ (0x28 ∷ 0x00 ∷ 0x00 ∷ [], Malformed)
     -- with CRC: right, wrong; file data with a CRC and nothing else; no room for one
     ∷ (0x2A ∷ 0x00 ∷ 0x05 ∷ 0x00 ∷ 0x01 ∷ 0x07 ∷ 0x02 ∷ 0x06 ∷ 0x40 ∷ 0x01 ∷ 0x64 ∷ 0x1A ∷ [], Means AckOfEof)

@@ -1,4 +1,5 @@
--- What follows from the layouts and their readings: reading what was written gives its meaning back. Proofs: proofs/Round.antt, proofs/Heard.antt.
+-- What follows from the layouts and their readings: reading what was written gives its meaning back.
+-- The other way round, only what was written is read. Proofs: proofs/Round.antt, Heard.antt, ExactBody.antt, ExactFrame.antt.
 -- Assumes nothing.
 use mathlib.Core.Path.{_≡_}
 use mathlib.Core.Logic.{_↔_, _⊎_}
@@ -144,6 +145,10 @@ BodyExactly =
     (large : Bool) (b : List ℕ) → Bytes b
     → ((directiveIn large (byte b 0) b ≡ Malformed) ↔ ((r : Body) → ByLayout large b r → ⊥))
     × ((r : Body) → ByLayout large b r → directiveIn large (byte b 0) b ≡ r)
+
+-- LAW widths: "width 1, 2, 4 or 8 bytes"
+abbrev pub WidthsExactly : Type 0
+WidthsExactly = (w : ℕ) → (goodWidth w ≡ true) ↔ ((w ≡ 1) ⊎ (w ≡ 2) ⊎ (w ≡ 4) ⊎ (w ≡ 8))
 
 -- LAW reserved: "Conditions 12 and 13 are reserved"
 abbrev pub ReservedExactly : Type 0
