@@ -6,3 +6,4 @@ pub mod Layout
 pub mod Reading
 pub mod Decoding
 pub mod PduLaws
+pub mod ChecksumCases
