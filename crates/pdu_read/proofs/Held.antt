@@ -1,4 +1,4 @@
--- What the walks over a `NakPduReader` share: its type and laws over a signature's lifetimes, and three entailments. A struct of other fields changes `parts`.
+-- What the walks over a `NakPduReader` share: its type and laws over a signature's lifetimes, and three entailments.
 --     parts        the fields' values, in their order
 --     Own          what a reader owns, at its machine value
 --     twice        a reader is Copy: what it owns is had twice
