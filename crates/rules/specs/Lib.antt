@@ -15,5 +15,4 @@ pub mod Deliver
 pub mod Step
 pub mod Cancel
 pub mod Calls
-pub mod ChecksumCases
 pub mod PduCases

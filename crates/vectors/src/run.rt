@@ -1,6 +1,8 @@
 // Each kind of vector: what the crates say of it, held to what the vector says.
 use crate::decoder;
 use crate::take;
+use pdu_read::field::byte_at;
+use pdu_read::field::part_of;
 use rules::Body;
 use rules::Checksum;
 use rules::Frame;
@@ -18,7 +20,7 @@ pub struct Ran {
 fn utf8_vector(s: &[u8], at: usize) -> Ran {
     let name = take::blob(s, at);
     let e = take::past(s, at);
-    let want = take::byte(s, e) == 1;
+    let want = byte_at(s, e) == 1;
     Ran { ok: utf8::is_utf8(name) == want, next: take::on(e, 1) }
 }
 
@@ -35,11 +37,11 @@ fn sum_agrees(got: Checksum, known: bool, want: u64) -> bool {
 }
 
 fn sum_vector(s: &[u8], at: usize) -> Ran {
-    let kind = take::byte(s, at);
+    let kind = byte_at(s, at);
     let n = (basis::num_at(s, take::on(at, 1), 4) % 4294967296) as usize;
     let file = take::blob(s, take::on(at, 5));
     let e = take::past(s, take::on(at, 5));
-    let known = take::byte(s, e) == 1;
+    let known = byte_at(s, e) == 1;
     let want = basis::num_at(s, take::on(e, 1), 4);
     let got = checksum::calculate_checksum(kind, file, n);
     Ran { ok: sum_agrees(got, known, want), next: take::on(e, 5) }
@@ -60,10 +62,10 @@ fn wrote(w: Written, out: &[u8], want: &[u8]) -> bool {
             if n != want.len() {
                 return false;
             }
-            if take::byte(out, n) != 165 {
+            if byte_at(out, n) != 165 {
                 return false;
             }
-            check::same(take::part(out, 0, n), want)
+            check::same(part_of(out, 0, n), want)
         }
     }
 }
@@ -72,10 +74,10 @@ fn wrote(w: Written, out: &[u8], want: &[u8]) -> bool {
 fn refused(w: Written, out: &[u8]) -> bool {
     match w {
         Written::Short => {
-            if take::byte(out, 0) != 165 {
+            if byte_at(out, 0) != 165 {
                 return false;
             }
-            take::byte(out, 5) == 165
+            byte_at(out, 5) == 165
         }
         Written::Wrote(_) => false,
     }
@@ -133,8 +135,8 @@ fn names_agree(b: &[u8], h: Head, at: usize, source: &[u8], destination: &[u8]) 
 fn metadata_vector(s: &[u8], at: usize) -> Ran {
     let h = take::head(s, at);
     let p = take::on(at, 27);
-    let closure = take::byte(s, p) == 1;
-    let kind = take::byte(s, take::on(p, 1));
+    let closure = byte_at(s, p) == 1;
+    let kind = byte_at(s, take::on(p, 1));
     let size = basis::num_at(s, take::on(p, 2), 8);
     let p2 = take::on(p, 10);
     let source = take::blob(s, p2);
@@ -144,12 +146,12 @@ fn metadata_vector(s: &[u8], at: usize) -> Ran {
     let want = take::blob(s, p4);
     let next = take::past(s, p4);
     let mut out = [165u8; 1024];
-    let w = pdu::write_metadata(&mut out, h, closure, kind, size, source, destination);
+    let w = pdu::metadata::write_metadata(&mut out, h, closure, kind, size, source, destination);
     if !wrote(w, &out, want) {
         return Ran { ok: false, next: next };
     }
     let mut small = [165u8; 16];
-    let v = pdu::write_metadata(&mut small, h, closure, kind, size, source, destination);
+    let v = pdu::metadata::write_metadata(&mut small, h, closure, kind, size, source, destination);
     if !refused(v, &small) {
         return Ran { ok: false, next: next };
     }
@@ -180,12 +182,12 @@ fn data_vector(s: &[u8], at: usize) -> Ran {
     let want = take::blob(s, p3);
     let next = take::past(s, p3);
     let mut out = [165u8; 1024];
-    let w = pdu::write_file_data(&mut out, h, offset, bytes);
+    let w = pdu::file_data::write_file_data(&mut out, h, offset, bytes);
     if !wrote(w, &out, want) {
         return Ran { ok: false, next: next };
     }
     let mut small = [165u8; 10];
-    let v = pdu::write_file_data(&mut small, h, offset, bytes);
+    let v = pdu::file_data::write_file_data(&mut small, h, offset, bytes);
     if !refused(v, &small) {
         return Ran { ok: false, next: next };
     }
@@ -212,19 +214,19 @@ fn eof_agrees(b: &[u8], h: Head, condition: u8, sum: u64, size: u64) -> bool {
 fn eof_vector(s: &[u8], at: usize) -> Ran {
     let h = take::head(s, at);
     let p = take::on(at, 27);
-    let condition = take::byte(s, p);
+    let condition = byte_at(s, p);
     let sum = basis::num_at(s, take::on(p, 1), 4);
     let size = basis::num_at(s, take::on(p, 5), 8);
     let p2 = take::on(p, 13);
     let want = take::blob(s, p2);
     let next = take::past(s, p2);
     let mut out = [165u8; 64];
-    let w = pdu::write_eof(&mut out, h, condition, (sum % 4294967296) as u32, size);
+    let w = pdu::eof::write_eof(&mut out, h, condition, (sum % 4294967296) as u32, size);
     if !wrote(w, &out, want) {
         return Ran { ok: false, next: next };
     }
     let mut small = [165u8; 16];
-    let v = pdu::write_eof(&mut small, h, condition, (sum % 4294967296) as u32, size);
+    let v = pdu::eof::write_eof(&mut small, h, condition, (sum % 4294967296) as u32, size);
     if !refused(v, &small) {
         return Ran { ok: false, next: next };
     }
@@ -244,18 +246,18 @@ fn ack_agrees(b: &[u8], h: Head, condition: u8, status: u8) -> bool {
 fn ack_vector(s: &[u8], at: usize) -> Ran {
     let h = take::head(s, at);
     let p = take::on(at, 27);
-    let condition = take::byte(s, p);
-    let status = take::byte(s, take::on(p, 1));
+    let condition = byte_at(s, p);
+    let status = byte_at(s, take::on(p, 1));
     let p2 = take::on(p, 2);
     let want = take::blob(s, p2);
     let next = take::past(s, p2);
     let mut out = [165u8; 64];
-    let w = pdu::write_ack_finished(&mut out, h, condition, status);
+    let w = pdu::ack::write_ack_finished(&mut out, h, condition, status);
     if !wrote(w, &out, want) {
         return Ran { ok: false, next: next };
     }
     let mut small = [165u8; 9];
-    let v = pdu::write_ack_finished(&mut small, h, condition, status);
+    let v = pdu::ack::write_ack_finished(&mut small, h, condition, status);
     if !refused(v, &small) {
         return Ran { ok: false, next: next };
     }
@@ -269,7 +271,7 @@ fn pairs_agree(delivery: &[u8], large: bool, first: usize, s: &[u8], at: usize, 
     let mut p = first;
     let mut q = at;
     while k < n {
-        let r = pdu_read::request_from(delivery, large, p);
+        let r = pdu_read::nak::request_from(delivery, large, p);
         if r.start != basis::num_at(s, q, 8) {
             return false;
         }
@@ -284,20 +286,20 @@ fn pairs_agree(delivery: &[u8], large: bool, first: usize, s: &[u8], at: usize, 
 }
 
 fn meaning_vector(delivery: &[u8], f: Frame, m: Meaning, s: &[u8], at: usize) -> Ran {
-    let code = take::byte(s, at);
+    let code = byte_at(s, at);
     let p = take::on(at, 1);
     match m {
         Meaning::Finished(v) => {
             if code != 5 {
                 return Ran { ok: false, next: 1000000 };
             }
-            if v.condition != take::byte(s, p) {
+            if v.condition != byte_at(s, p) {
                 return Ran { ok: false, next: take::on(p, 3) };
             }
-            if v.delivery != take::byte(s, take::on(p, 1)) {
+            if v.delivery != byte_at(s, take::on(p, 1)) {
                 return Ran { ok: false, next: take::on(p, 3) };
             }
-            Ran { ok: v.status == take::byte(s, take::on(p, 2)), next: take::on(p, 3) }
+            Ran { ok: v.status == byte_at(s, take::on(p, 2)), next: take::on(p, 3) }
         }
         Meaning::AckOfEof => Ran { ok: code == 6, next: p },
         Meaning::Nak(n) => {
@@ -325,11 +327,11 @@ fn meaning_vector(delivery: &[u8], f: Frame, m: Meaning, s: &[u8], at: usize) ->
 fn delivery_vector(s: &[u8], at: usize) -> Ran {
     let delivery = take::blob(s, at);
     let e = take::past(s, at);
-    let want = take::byte(s, e);
+    let want = byte_at(s, e);
     let next = take::on(e, 1);
-    match pdu_read::read_header(delivery) {
+    match pdu_read::header::read_header(delivery) {
         Framed::Malformed => Ran { ok: want == 20, next: next },
-        Framed::Whole(f) => match pdu_read::read_body(delivery, f) {
+        Framed::Whole(f) => match pdu_read::directive::read_body(delivery, f) {
             Body::Malformed => Ran { ok: want == 20, next: next },
             Body::CantProcess => Ran { ok: want == 21, next: next },
             Body::Means(m) => {
@@ -383,10 +385,10 @@ pub fn all(s: &[u8]) {
         if at >= s.len() {
             break;
         }
-        let n = take::byte(s, take::on(at, 1)) as usize;
+        let n = byte_at(s, take::on(at, 1)) as usize;
         let body = take::on(take::on(at, 2), n);
-        let r = one(take::byte(s, at), s, body);
-        say(take::part(s, take::on(at, 2), n), r.ok);
+        let r = one(byte_at(s, at), s, body);
+        say(part_of(s, take::on(at, 2), n), r.ok);
         bad = more(bad, r.ok);
         at = r.next;
         k += 1;

@@ -1,4 +1,6 @@
 // Taking things from the stream of vectors: bytes, numbers, a run of bytes behind its length, a header. Past the end everything is zero.
+use pdu_read::field::byte_at;
+use pdu_read::field::part_of;
 use rules::EntityId;
 use rules::Head;
 use rules::TransactionSeqNum;
@@ -14,33 +16,13 @@ pub fn on(at: usize, n: usize) -> usize {
     at + n
 }
 
-pub fn byte(s: &[u8], at: usize) -> u8 {
-    if at < s.len() {
-        return s[at];
-    }
-    0
-}
-
-// The bytes from a place on, n of them or as many as there are.
-pub fn part(s: &[u8], at: usize, n: usize) -> &[u8] {
-    let mut a = at;
-    if a > s.len() {
-        a = s.len();
-    }
-    let mut e = s.len();
-    if n < e - a {
-        e = a + n;
-    }
-    &s[a..e]
-}
-
 pub fn length(s: &[u8], at: usize) -> usize {
     (basis::num_at(s, at, 2) % 65536) as usize
 }
 
 // A run of bytes behind its two bytes of length, and the place behind it.
 pub fn blob(s: &[u8], at: usize) -> &[u8] {
-    part(s, on(at, 2), length(s, at))
+    part_of(s, on(at, 2), length(s, at))
 }
 
 pub fn past(s: &[u8], at: usize) -> usize {
@@ -56,9 +38,9 @@ fn flag(b: u8, divisor: u8) -> bool {
 
 // A header takes 27 bytes.
 pub fn head(s: &[u8], at: usize) -> Head {
-    let flags = byte(s, at);
-    let idw = byte(s, on(at, 1));
-    let seqw = byte(s, on(at, 10));
+    let flags = byte_at(s, at);
+    let idw = byte_at(s, on(at, 1));
+    let seqw = byte_at(s, on(at, 10));
     let source = basis::num_at(s, on(at, 2), 8);
     let number = basis::num_at(s, on(at, 11), 8);
     let destination = basis::num_at(s, on(at, 19), 8);
