@@ -55,6 +55,7 @@ good-range w t = go (widths-exactly w .0 t)
     go (inr (inr (inl e))) = omega arith
     go (inr (inr (inr e))) = omega arith
 
+-- a header with this destination
 abbrev withDestination : Head → EntityId → Head
 withDestination h d =
     record {
