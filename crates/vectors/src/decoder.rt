@@ -1,7 +1,10 @@
 // A decoder of its own for what the writers wrote: no code of the readers or writers is used, and CRC-16 goes by a byte-wise formula.
+ghost use Prim.Native.Nat.{_≤_, _<_};
 use rules::Head;
 
-fn at(b: &[u8], i: usize) -> u64 {
+fn at(b: &[u8], i: usize) -> u64
+    ensures { λ r. ⌜ r < 256 ⌝ }
+{
     if i < b.len() {
         return basis::wide(b[i]);
     }
@@ -71,11 +74,15 @@ fn first_agrees(b: u64, filedata: bool, h: Head) -> bool {
     same_flag(b % 2, h.large)
 }
 
-pub fn header_length(h: Head) -> usize {
+pub fn header_length(h: Head) -> usize
+    ensures { λ r. ⌜ r ≤ 1000 ⌝ }
+{
     4 + 2 * (h.source.0 as usize) + (h.number.0 as usize)
 }
 
-fn crc_length(h: Head) -> usize {
+fn crc_length(h: Head) -> usize
+    ensures { λ r. ⌜ r ≤ 2 ⌝ }
+{
     if h.crc { 2 } else { 0 }
 }
 
@@ -129,7 +136,9 @@ pub fn frame_agrees(b: &[u8], h: Head, filedata: bool, body: usize) -> bool {
     crc_agrees(b, h)
 }
 
-pub fn size_width(h: Head) -> usize {
+pub fn size_width(h: Head) -> usize
+    ensures { λ r. ⌜ r ≤ 8 ⌝ }
+{
     if h.large { 8 } else { 4 }
 }
 

@@ -21,7 +21,10 @@ fn utf8_vector(s: &[u8], at: usize) -> Ran {
     let name = take::blob(s, at);
     let e = take::past(s, at);
     let want = byte_at(s, e) == 1;
-    Ran { ok: utf8::is_utf8(name) == want, next: take::on(e, 1) }
+    Ran {
+        ok: utf8::is_utf8(name) == want,
+        next: take::on(e, 1),
+    }
 }
 
 fn sum_agrees(got: Checksum, known: bool, want: u64) -> bool {
@@ -44,14 +47,20 @@ fn sum_vector(s: &[u8], at: usize) -> Ran {
     let known = byte_at(s, e) == 1;
     let want = basis::num_at(s, take::on(e, 1), 4);
     let got = checksum::calculate_checksum(kind, file, n);
-    Ran { ok: sum_agrees(got, known, want), next: take::on(e, 5) }
+    Ran {
+        ok: sum_agrees(got, known, want),
+        next: take::on(e, 5),
+    }
 }
 
 fn crc_vector(s: &[u8], at: usize) -> Ran {
     let e = take::past(s, at);
     let want = basis::num_at(s, e, 2);
     let got = checksum::crc16(take::blob(s, at)) as u64;
-    Ran { ok: got == want, next: take::on(e, 2) }
+    Ran {
+        ok: got == want,
+        next: take::on(e, 2),
+    }
 }
 
 // The length that was written is the wanted PDU's, and so are the bytes; the byte behind is as it was.
@@ -83,7 +92,15 @@ fn refused(w: Written, out: &[u8]) -> bool {
     }
 }
 
-fn metadata_agrees(b: &[u8], h: Head, closure: bool, kind: u8, size: u64, source: &[u8], destination: &[u8]) -> bool {
+fn metadata_agrees(
+    b: &[u8],
+    h: Head,
+    closure: bool,
+    kind: u8,
+    size: u64,
+    source: &[u8],
+    destination: &[u8],
+) -> bool {
     let f = decoder::size_width(h);
     if source.len() > 255 {
         return false;
@@ -148,14 +165,23 @@ fn metadata_vector(s: &[u8], at: usize) -> Ran {
     let mut out = [165u8; 1024];
     let w = pdu::metadata::write_metadata(&mut out, h, closure, kind, size, source, destination);
     if !wrote(w, &out, want) {
-        return Ran { ok: false, next: next };
+        return Ran {
+            ok: false,
+            next: next,
+        };
     }
     let mut small = [165u8; 16];
     let v = pdu::metadata::write_metadata(&mut small, h, closure, kind, size, source, destination);
     if !refused(v, &small) {
-        return Ran { ok: false, next: next };
+        return Ran {
+            ok: false,
+            next: next,
+        };
     }
-    Ran { ok: metadata_agrees(want, h, closure, kind, size, source, destination), next: next }
+    Ran {
+        ok: metadata_agrees(want, h, closure, kind, size, source, destination),
+        next: next,
+    }
 }
 
 fn data_agrees(b: &[u8], h: Head, offset: u64, bytes: &[u8]) -> bool {
@@ -184,14 +210,23 @@ fn data_vector(s: &[u8], at: usize) -> Ran {
     let mut out = [165u8; 1024];
     let w = pdu::file_data::write_file_data(&mut out, h, offset, bytes);
     if !wrote(w, &out, want) {
-        return Ran { ok: false, next: next };
+        return Ran {
+            ok: false,
+            next: next,
+        };
     }
     let mut small = [165u8; 10];
     let v = pdu::file_data::write_file_data(&mut small, h, offset, bytes);
     if !refused(v, &small) {
-        return Ran { ok: false, next: next };
+        return Ran {
+            ok: false,
+            next: next,
+        };
     }
-    Ran { ok: data_agrees(want, h, offset, bytes), next: next }
+    Ran {
+        ok: data_agrees(want, h, offset, bytes),
+        next: next,
+    }
 }
 
 fn eof_agrees(b: &[u8], h: Head, condition: u8, sum: u64, size: u64) -> bool {
@@ -223,14 +258,23 @@ fn eof_vector(s: &[u8], at: usize) -> Ran {
     let mut out = [165u8; 64];
     let w = pdu::eof::write_eof(&mut out, h, condition, (sum % 4294967296) as u32, size);
     if !wrote(w, &out, want) {
-        return Ran { ok: false, next: next };
+        return Ran {
+            ok: false,
+            next: next,
+        };
     }
     let mut small = [165u8; 16];
     let v = pdu::eof::write_eof(&mut small, h, condition, (sum % 4294967296) as u32, size);
     if !refused(v, &small) {
-        return Ran { ok: false, next: next };
+        return Ran {
+            ok: false,
+            next: next,
+        };
     }
-    Ran { ok: eof_agrees(want, h, condition, sum, size), next: next }
+    Ran {
+        ok: eof_agrees(want, h, condition, sum, size),
+        next: next,
+    }
 }
 
 fn ack_agrees(b: &[u8], h: Head, condition: u8, status: u8) -> bool {
@@ -254,19 +298,28 @@ fn ack_vector(s: &[u8], at: usize) -> Ran {
     let mut out = [165u8; 64];
     let w = pdu::ack::write_ack_finished(&mut out, h, condition, status);
     if !wrote(w, &out, want) {
-        return Ran { ok: false, next: next };
+        return Ran {
+            ok: false,
+            next: next,
+        };
     }
     let mut small = [165u8; 9];
     let v = pdu::ack::write_ack_finished(&mut small, h, condition, status);
     if !refused(v, &small) {
-        return Ran { ok: false, next: next };
+        return Ran {
+            ok: false,
+            next: next,
+        };
     }
-    Ran { ok: ack_agrees(want, h, condition, status), next: next }
+    Ran {
+        ok: ack_agrees(want, h, condition, status),
+        next: next,
+    }
 }
 
 // The n pairs of a delivered NAK, held to the vector's.
 fn pairs_agree(delivery: &[u8], large: bool, first: usize, s: &[u8], at: usize, n: usize) -> bool {
-    let width: usize = if large { 8 } else { 4 };
+    let width = pdu_read::field::size_width(large);
     let mut k = 0;
     let mut p = first;
     let mut q = at;
@@ -291,35 +344,65 @@ fn meaning_vector(delivery: &[u8], f: Frame, m: Meaning, s: &[u8], at: usize) ->
     match m {
         Meaning::Finished(v) => {
             if code != 5 {
-                return Ran { ok: false, next: 1000000 };
+                return Ran {
+                    ok: false,
+                    next: 1000000,
+                };
             }
             if v.condition != byte_at(s, p) {
-                return Ran { ok: false, next: take::on(p, 3) };
+                return Ran {
+                    ok: false,
+                    next: take::on(p, 3),
+                };
             }
             if v.delivery != byte_at(s, take::on(p, 1)) {
-                return Ran { ok: false, next: take::on(p, 3) };
+                return Ran {
+                    ok: false,
+                    next: take::on(p, 3),
+                };
             }
-            Ran { ok: v.status == byte_at(s, take::on(p, 2)), next: take::on(p, 3) }
+            Ran {
+                ok: v.status == byte_at(s, take::on(p, 2)),
+                next: take::on(p, 3),
+            }
         }
-        Meaning::AckOfEof => Ran { ok: code == 6, next: p },
+        Meaning::AckOfEof => Ran {
+            ok: code == 6,
+            next: p,
+        },
         Meaning::Nak(n) => {
             let count = take::length(s, p);
             let large = f.head.large;
-            let first = take::on(f.start, if large { 17 } else { 9 });
+            let first = take::on(f.start, 1 + 2 * pdu_read::field::size_width(large));
             let next = take::on(p, 2 + 16 * count);
             if code != 8 {
-                return Ran { ok: false, next: 1000000 };
+                return Ran {
+                    ok: false,
+                    next: 1000000,
+                };
             }
             if n != count {
-                return Ran { ok: false, next: next };
+                return Ran {
+                    ok: false,
+                    next: next,
+                };
             }
-            Ran { ok: pairs_agree(delivery, large, first, s, take::on(p, 2), n), next: next }
+            Ran {
+                ok: pairs_agree(delivery, large, first, s, take::on(p, 2), n),
+                next: next,
+            }
         }
         Meaning::KeepAlive(progress) => {
             if code != 12 {
-                return Ran { ok: false, next: 1000000 };
+                return Ran {
+                    ok: false,
+                    next: 1000000,
+                };
             }
-            Ran { ok: progress == basis::num_at(s, p, 8), next: take::on(p, 8) }
+            Ran {
+                ok: progress == basis::num_at(s, p, 8),
+                next: take::on(p, 8),
+            }
         }
     }
 }
@@ -330,13 +413,25 @@ fn delivery_vector(s: &[u8], at: usize) -> Ran {
     let want = byte_at(s, e);
     let next = take::on(e, 1);
     match pdu_read::header::read_header(delivery) {
-        Framed::Malformed => Ran { ok: want == 20, next: next },
+        Framed::Malformed => Ran {
+            ok: want == 20,
+            next: next,
+        },
         Framed::Whole(f) => match pdu_read::directive::read_body(delivery, f) {
-            Body::Malformed => Ran { ok: want == 20, next: next },
-            Body::CantProcess => Ran { ok: want == 21, next: next },
+            Body::Malformed => Ran {
+                ok: want == 20,
+                next: next,
+            },
+            Body::CantProcess => Ran {
+                ok: want == 21,
+                next: next,
+            },
             Body::Means(m) => {
                 if want != 0 {
-                    return Ran { ok: false, next: 1000000 };
+                    return Ran {
+                        ok: false,
+                        next: 1000000,
+                    };
                 }
                 meaning_vector(delivery, f, m, s, next)
             }
@@ -354,7 +449,10 @@ fn one(kind: u8, s: &[u8], at: usize) -> Ran {
         6 => eof_vector(s, at),
         7 => ack_vector(s, at),
         8 => delivery_vector(s, at),
-        _ => Ran { ok: false, next: 1000000 },
+        _ => Ran {
+            ok: false,
+            next: 1000000,
+        },
     }
 }
 

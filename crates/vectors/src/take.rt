@@ -1,4 +1,5 @@
 // Taking things from the stream of vectors: bytes, numbers, a run of bytes behind its length, a header. Past the end everything is zero.
+ghost use Prim.Native.Nat.{_<_};
 use pdu_read::field::byte_at;
 use pdu_read::field::part_of;
 use rules::EntityId;
@@ -16,7 +17,9 @@ pub fn on(at: usize, n: usize) -> usize {
     at + n
 }
 
-pub fn length(s: &[u8], at: usize) -> usize {
+pub fn length(s: &[u8], at: usize) -> usize
+    ensures { λ r. ⌜ r < 65536 ⌝ }
+{
     (basis::num_at(s, at, 2) % 65536) as usize
 }
 
