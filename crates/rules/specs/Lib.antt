@@ -14,3 +14,6 @@ pub mod Deliver
 pub mod Step
 pub mod Cancel
 pub mod Calls
+pub mod Tiles
+pub mod Runs
+pub mod Demand
