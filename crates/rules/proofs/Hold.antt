@@ -1,0 +1,524 @@
+-- What holds of the handler from an accepted put until the first EOF leaves, and what each call does to it.
+-- The idea: `plan` is the list of PDUs still to be sent besides repairs, `answers` of the pending list is the list still owed; an unrefused step takes
+-- the head of one of the two, an accepted NAK appends to the second, and nothing else changes them.
+-- Assumes nothing.
+use mathlib.Core.Path.{_≡_, refl, sym, ap, _∙_}
+use mathlib.Core.Bool.{Bool, true, false, true≢false, false≢true}
+use mathlib.Core.List.{List, [], _∷_, _++_, append-nil, cons≢nil}
+use mathlib.Core.Option.{Option, none, some}
+use Prim.Native.Nat.{ℕ, zero, suc, _+_, _-_, _≤_, _<_, min}
+use native.Mathlib.Omega.{arith}
+use lib.Dec.{eqb, leb, ltb}
+use lib.ListN.{length, take, drop}
+use lib.Seq.{take-length}
+use borrow.Author.Tests.{eqb-true, eqb-false, ltb-true, ltb-false}
+use Rattle.basis.specs.Pick.{pick}
+use Rattle.basis.specs.Bytes.{part}
+use Rattle.basis.specs.Laid.{inFront}
+use Rattle.basis.proofs.Laid.{taken}
+use Rattle.rules.specs.Checksum.{sumOf}
+use Rattle.rules.specs.Layout.{Said, encode, pduLength}
+use Rattle.rules.specs.Reading.{framedIn, bodyOf}
+use Rattle.rules.specs.States.{isIdle, toStep, withQueue, sourceName, destinationName}
+use Rattle.rules.specs.Queues.{pending, anyInvalid, owing, free, pushAll, oldest, pop, piece, served, isMetadata}
+use Rattle.rules.specs.Put.{putSpec, putAnswer, putState, byAnswer}
+use Rattle.rules.specs.Deliver.{refused, accepted, sameTransaction, takesNak, nakOf, verdictOf, byVerdict, heard, byBody, byFrame, asked, requestsIn, deliverSpec}
+use Rattle.rules.specs.Step.{eofOwed, dueAt, dueOf, eofFor, repairOf, nextLength, sendingOf, closureBit, bytesFor, afterMetadata, afterData, onward, afterOf, changed, refusedStep, bytesDue, eventsOf, made as madeStep, stepSpec, stepBytes}
+use Rattle.rules.specs.Cancel.{mayCancel, userCancelled, cancelSpec}
+use Rattle.rules.specs.Tiles.{tiles, answers}
+use Rattle.rules.specs.Runs.{Call, put, deliver, step, cancel, reset, Event, turned, began, took, made, ended, after, unless, pduIn, seen, LendsIn, requestsOfBody, requestsOfFrame, requests}
+use Rattle.rules.specs.Demand.{Transfer, saidOf, lastly}
+use Rattle.rules.specs.declared.LocalEntityConfig.{LocalEntityConfig}
+use Rattle.rules.specs.declared.PutRequest.{PutRequest}
+use Rattle.rules.specs.declared.EntityId.{EntityId}
+use Rattle.rules.specs.declared.TransactionSeqNum.{TransactionSeqNum}
+use Rattle.rules.specs.declared.Head.{Head}
+use Rattle.rules.specs.declared.SegmentRequest.{SegmentRequest}
+use Rattle.rules.specs.declared.Frame.{Frame}
+use Rattle.rules.specs.declared.Framed.{Framed}
+use Rattle.rules.specs.declared.Framed.the-variants.{Malformed as NoFrame, Whole}
+use Rattle.rules.specs.declared.Body.{Body}
+use Rattle.rules.specs.declared.Body.the-variants.{Malformed as NoBody, CantProcess, Means}
+use Rattle.rules.specs.declared.Meaning.{Meaning}
+use Rattle.rules.specs.declared.Meaning.the-variants.{Finished, AckOfEof, Nak, KeepAlive}
+use Rattle.rules.specs.declared.Fixed.{Fixed}
+use Rattle.rules.specs.declared.Names.{Names}
+use Rattle.rules.specs.declared.FileParams.{FileParams}
+use Rattle.rules.specs.declared.Queue.{Queue}
+use Rattle.rules.specs.declared.State.{State}
+use Rattle.rules.specs.declared.TransactionStep.{TransactionStep}
+use Rattle.rules.specs.declared.TransactionStep.the-variants.{Idle, SendingMetadata, SendingFileData, SendingEof, WaitingForEofAck, WaitingForFinished, Closing}
+use Rattle.rules.specs.declared.Due.{Due}
+use Rattle.rules.specs.declared.Due.the-variants.{CancelEof, Repair}
+use Rattle.rules.specs.declared.Sending.{Sending}
+use Rattle.rules.specs.declared.Sending.the-variants.{Nothing as NoPdu, Metadata as MetadataPdu, FileData, Eof as EofPdu, AckFinished}
+use Rattle.rules.specs.declared.Refusal.{Refusal}
+use Rattle.rules.specs.declared.Refusal.the-variants.{AlreadyBusy, UnexpectedPdu, InvalidNakPdu, RetransmitFull, OtherTransaction, FileChanged, OutTooSmall, Malformed, CantProcessPacketType}
+use Rattle.rules.specs.declared.Answer.{Answer}
+use Rattle.rules.specs.declared.Answer.the-variants.{Accepted, Refused}
+use Rattle.rules.specs.declared.Done.{Done}
+use Rattle.rules.specs.declared.Cancelled.{Cancelled}
+use Rattle.rules.proofs.Tiles.{tiles-zero, tiles-step, tiles-one, Within, answers-append}
+use Rattle.rules.proofs.Pending.{Formed, AllOwe, pending-none, pending-first, those, pending-all, formed-all, owe-append, owe-those, answers-those, answers-within, Serves, serves}
+use Rattle.rules.proofs.Round.{length-encode}
+
+-- ---- the bytes of a transfer's PDUs, and a state that sends them
+
+abbrev pub encoded : Head → Option Said → List ℕ
+encoded h none = []
+encoded h (some m) = encode h m
+
+abbrev pub bytesOf : Transfer → Sending → List ℕ
+bytesOf w d = encoded (w .head) (saidOf w d)
+
+pub record Sends (f : Fixed) (n : Names) (w : Transfer) : Type 0 where
+  pub head-is : f .head ≡ w .head
+  pub closure-is : pick (f .head .unacknowledged) (f .closure) false ≡ w .closure
+  pub type-is : f .checksum ≡ w .type
+  pub segment-is : f .segment ≡ w .segment
+  pub size-is : f .size ≡ length (w .file)
+  pub source-is : sourceName n ≡ w .source
+  pub destination-is : destinationName n ≡ w .destination
+
+pub same-bytes : (w : Transfer) (s : State) → Sends (s .fixed) (s .names) w → (d : Sending) → bytesFor s (w .file) d ≡ bytesOf w d
+unfolding closureBit
+same-bytes w s i NoPdu = refl
+same-bytes w s i MetadataPdu = cc
+same-bytes w s i (FileData o n) = cc
+same-bytes w s i (EofPdu e) = cc
+same-bytes w s i (AckFinished c) = cc
+
+-- ---- the invariant
+
+-- what is still to be sent besides repairs, with the EOF
+abbrev pub plan : Transfer → TransactionStep → ℕ → List Sending
+plan w Idle p = []
+plan w SendingMetadata p = MetadataPdu ∷ tiles (w .segment) p (length (w .file) - p) ++ lastly w ∷ []
+plan w SendingFileData p = tiles (w .segment) p (length (w .file) - p) ++ lastly w ∷ []
+plan w SendingEof p = lastly w ∷ []
+plan w WaitingForEofAck p = []
+plan w WaitingForFinished p = []
+plan w Closing p = []
+
+-- what the step says of progress and pending requests
+abbrev pub At : ℕ → TransactionStep → ℕ → List SegmentRequest → Type 0
+At S Idle p q = ⊥
+At S SendingMetadata p q = (q ≡ []) × (p ≡ 0)
+At S SendingFileData p q = p < S
+At S SendingEof p q = p ≡ S
+At S WaitingForEofAck p q = ⊥
+At S WaitingForFinished p q = ⊥
+At S Closing p q = ⊥
+
+pub record Inv (w : Transfer) (s : State) : Type 0 where
+  pub sends : Sends (s .fixed) (s .names) w
+  pub pos : 0 < w .segment
+  pub unmarked : s .marks .cancelled ≡ false
+  pub formed : Formed (s .queue)
+  pub owe : AllOwe (pending (s .queue))
+  pub here : At (length (w .file)) (s .step) (s .file .progress) (pending (s .queue))
+
+abbrev pub planOf : Transfer → State → List Sending
+planOf w s = plan w (s .step) (s .file .progress)
+
+abbrev pub owedBy : Transfer → State → List Sending
+owedBy w s = answers (w .segment) (pending (s .queue))
+
+-- the metadata PDU, or data of at most L bytes
+abbrev pub Small : ℕ → Sending → Type 0
+Small L NoPdu = ⊥
+Small L MetadataPdu = Unit {0}
+Small L (FileData o n) = n ≤ L
+Small L (EofPdu e) = ⊥
+Small L (AckFinished c) = ⊥
+
+-- what a step emits and comes to, from a state with the pending list q, the step k and the progress p
+pub data Does (w : Transfer) (q : List SegmentRequest) (k : TransactionStep) (p : ℕ) : Sending → State → Type 0 where
+  serves-one :
+      (d : Sending) (t : State)
+      → answers (w .segment) q ≡ d ∷ owedBy w t
+      → planOf w t ≡ plan w k p
+      → Small (w .segment) d
+      → Inv w t
+      → Does w q k p d t
+  advances :
+      (d : Sending) (t : State)
+      → q ≡ []
+      → pending (t .queue) ≡ []
+      → plan w k p ≡ d ∷ planOf w t
+      → Small (w .segment) d
+      → Inv w t
+      → Does w q k p d t
+  closes : (t : State) → q ≡ [] → plan w k p ≡ lastly w ∷ [] → Does w q k p (lastly w) t
+
+abbrev pub DoesFrom : Transfer → State → Sending → State → Type 0
+DoesFrom w s d t = Does w (pending (s .queue)) (s .step) (s .file .progress) d t
+
+-- what the host sees of a call, and the state after it
+pub data Moves (w : Transfer) (s : State) : Event → State → Type 0 where
+  refuses : Moves w s turned s
+  takes :
+      (bytes : List ℕ) (t : State)
+      → owedBy w t ≡ owedBy w s ++ answers (w .segment) (requests bytes)
+      → planOf w t ≡ planOf w s
+      → Within (w .segment) (length (w .file)) (answers (w .segment) (requests bytes))
+      → Inv w t
+      → Moves w s (took bytes) t
+  emits : (d : Sending) (t : State) → DoesFrom w s d t → Moves w s (made (some (bytesOf w d))) t
+  ends : (t : State) → Moves w s ended t
+
+-- ---- steps
+
+at-rest : (S : ℕ) (k : TransactionStep) (p : ℕ) (r : SegmentRequest) (q l : List SegmentRequest) → At S k p (r ∷ q) → At S k p l
+at-rest S Idle p r q l h = h
+at-rest S SendingMetadata p r q l h = absurd (cons≢nil (h .0))
+at-rest S SendingFileData p r q l h = h
+at-rest S SendingEof p r q l h = h
+at-rest S WaitingForEofAck p r q l h = h
+at-rest S WaitingForFinished p r q l h = h
+at-rest S Closing p r q l h = h
+
+-- ids, names, configuration and marks stay
+abbrev moved : State → TransactionStep → FileParams → Queue → State
+moved s k f q = record { number = s .number; step = k; fixed = s .fixed; names = s .names; file = f; queue = q; marks = s .marks }
+
+module _ (w : Transfer) (s : State) (i : Inv w s) where
+  held :
+      (k : TransactionStep) (f : FileParams) (q : Queue)
+      → Formed q
+      → AllOwe (pending q)
+      → At (length (w .file)) k (f .progress) (pending q)
+      → Inv w (moved s k f q)
+  held k f q z o h = record { sends = i .sends; pos = i .pos; unmarked = i .unmarked; formed = z; owe = o; here = h }
+
+  small-repair : (L : ℕ) (r : SegmentRequest) → Small L (repairOf L r)
+  unfolding repairOf
+  small-repair L r = go (isMetadata r)
+    where
+      go : (m : Bool) → Small L (pick m MetadataPdu (FileData (r .start) (piece L r)))
+      go true = tt
+      go false = omega arith
+
+  repair-does : (n : ℕ) → n ≡ w .segment → 0 < s .queue .count → DoesFrom w s (repairOf n (oldest (s .queue))) (withQueue s (served n (s .queue)))
+  repair-does n e c =
+      let L = w .segment in
+      let z = serves L (i .pos) (s .queue) (i .formed) c (i .owe) in
+      rw e (serves-one (repairOf L (oldest (s .queue))) (withQueue s (served L (s .queue))) (z .answers-are) refl (small-repair L (oldest (s .queue)))
+      (held (s .step) (s .file) (served L (s .queue)) (z .formed) (z .owe)
+      (at-rest (length (w .file)) (s .step) (s .file .progress) (oldest (s .queue)) (pending (pop (s .queue))) (pending (served L (s .queue)))
+      (rw (pending-first (s .queue) (i .formed) c) at (i .here)))))
+
+  module _ (none-left : pending (s .queue) ≡ []) where
+    -- another step and progress, nothing pending
+    gone-on :
+        (k : TransactionStep) (f : FileParams)
+        → At (length (w .file)) k (f .progress) (pending (s .queue))
+        → Inv w (moved s k f (s .queue))
+    gone-on k f h = held k f (s .queue) (i .formed) (i .owe) h
+
+    metadata-does : s .file .progress ≡ 0 → Does w (pending (s .queue)) SendingMetadata (s .file .progress) MetadataPdu (afterMetadata s)
+    unfolding afterMetadata
+    metadata-does z = go (eqb (s .fixed .size) 0) refl
+      where
+        go :
+            (t : Bool) → eqb (s .fixed .size) 0 ≡ t
+            → Does w (pending (s .queue)) SendingMetadata (s .file .progress) MetadataPdu (pick t (toStep s SendingEof) (toStep s SendingFileData))
+        go true e =
+            let n = eqb-true (s .fixed .size) 0 e in
+            let y = i .sends .size-is in
+            let none-to-send : length (w .file) - s .file .progress ≡ 0 = omega arith in
+            advances MetadataPdu (toStep s SendingEof) none-left none-left (rw (none-to-send, tiles-zero (w .segment) (s .file .progress) (i .pos))) tt
+            (gone-on SendingEof (s .file) (omega arith))
+        go false e =
+            let n = eqb-false (s .fixed .size) 0 e in
+            let y = i .sends .size-is in
+            advances MetadataPdu (toStep s SendingFileData) none-left none-left refl tt (gone-on SendingFileData (s .file) (omega arith))
+
+    -- n: the bytes that go out, p: the progress behind them
+    data-does :
+        (n p : ℕ) → n ≡ min (w .segment) (length (w .file) - s .file .progress) → p ≡ s .file .progress + n
+        → s .step ≡ SendingFileData → s .file .progress < length (w .file)
+        → Does w (pending (s .queue)) SendingFileData (s .file .progress) (FileData (s .file .progress) n)
+        (pick (eqb p (s .fixed .size)) (toStep (onward s p) SendingEof) (onward s p))
+    data-does n p d g a l = go (eqb p (s .fixed .size)) refl
+      where
+        small : n ≤ w .segment
+        small = omega arith
+
+        go :
+            (t : Bool) → eqb p (s .fixed .size) ≡ t
+            → Does w (pending (s .queue)) SendingFileData (s .file .progress) (FileData (s .file .progress) n)
+            (pick t (toStep (onward s p) SendingEof) (onward s p))
+        go true e =
+            let b = eqb-true p (s .fixed .size) e in
+            let y = i .sends .size-is in
+            let last = tiles-one (w .segment) (s .file .progress) (length (w .file) - s .file .progress) (omega arith) (omega arith) in
+            advances (FileData (s .file .progress) n) (toStep (onward s p) SendingEof) none-left none-left (rw (last, d)) small
+            (gone-on SendingEof (onward s p .file) (omega arith))
+        go false e =
+            let b = eqb-false p (s .fixed .size) e in
+            let y = i .sends .size-is in
+            let full : n ≡ w .segment = omega arith in
+            let left : length (w .file) - s .file .progress - w .segment ≡ length (w .file) - p = omega arith in
+            let on : s .file .progress + w .segment ≡ p = omega arith in
+            let first = tiles-step (w .segment) (s .file .progress) (length (w .file) - s .file .progress) (i .pos) (omega arith) in
+            advances (FileData (s .file .progress) n) (onward s p) none-left none-left (rw (a, first, ← d, left, on)) small
+            (gone-on (s .step) (onward s p .file) (rw a (omega arith)))
+
+    eof-is : EofPdu (eofFor s (w .file) 0 (s .fixed .size)) ≡ lastly w
+    unfolding eofFor
+    eof-is = rw (i .sends .type-is, i .sends .size-is, take-length (w .file))
+
+    closed : (d : Sending) (t : State) → d ≡ lastly w → Does w (pending (s .queue)) SendingEof (s .file .progress) d t
+    closed d t e = rw e (closes t none-left refl)
+
+    -- 3 to 5, by the step
+    by-step :
+        (expired : Bool) (k : TransactionStep) → s .step ≡ k → At (length (w .file)) k (s .file .progress) (pending (s .queue))
+        → Does w (pending (s .queue)) k (s .file .progress) (sendingOf s (w .file) (dueAt k s expired)) (afterOf s (w .file) (dueAt k s expired))
+    unfolding afterData
+    by-step expired Idle a h = absurd h
+    by-step expired SendingMetadata a h = metadata-does (h .1)
+    by-step expired SendingFileData a h =
+        data-does (nextLength s) (s .file .progress + nextLength s) (rw (i .sends .segment-is, i .sends .size-is)) refl a h
+    by-step expired SendingEof a h = closed (EofPdu (eofFor s (w .file) 0 (s .fixed .size))) (afterOf s (w .file) (dueAt SendingEof s expired)) eof-is
+    by-step expired WaitingForEofAck a h = absurd h
+    by-step expired WaitingForFinished a h = absurd h
+    by-step expired Closing a h = absurd h
+
+  -- a cancel's EOF is not due; repairs come first
+  due-does : (expired : Bool) → DoesFrom w s (sendingOf s (w .file) (dueOf s expired)) (afterOf s (w .file) (dueOf s expired))
+  unfolding dueOf eofOwed
+  due-does expired = go (s .marks .cancelled) (ltb 0 (s .queue .count)) (i .unmarked) refl
+    where
+      due : Bool → Bool → Due
+      due c t = pick (pick c (s .marks .owed) false) CancelEof (pick t Repair (dueAt (s .step) s expired))
+
+      go :
+          (c t : Bool) → c ≡ false → ltb 0 (s .queue .count) ≡ t
+          → DoesFrom w s (sendingOf s (w .file) (due c t)) (afterOf s (w .file) (due c t))
+      go true t a e = absurd (true≢false a)
+      go false true a e = repair-does (s .fixed .segment) (i .sends .segment-is) (ltb-true 0 (s .queue .count) e)
+      go false false a e =
+          let z = ltb-false 0 (s .queue .count) e in
+          by-step (pending-none (s .queue) (omega arith)) expired (s .step) refl (i .here)
+
+busy : (S : ℕ) (k : TransactionStep) (p : ℕ) (q : List SegmentRequest) → At S k p q → isIdle k ≡ false
+busy S Idle p q h = absurd h
+busy S SendingMetadata p q h = refl
+busy S SendingFileData p q h = refl
+busy S SendingEof p q h = refl
+busy S WaitingForEofAck p q h = refl
+busy S WaitingForFinished p q h = refl
+busy S Closing p q h = refl
+
+pub not-idle : (w : Transfer) (s : State) → Inv w s → isIdle (s .step) ≡ false
+not-idle w s i = busy (length (w .file)) (s .step) (s .file .progress) (pending (s .queue)) (i .here)
+
+-- 30: what is lent has the file's length
+same-length : (w : Transfer) (s : State) (n : ℕ) → Inv w s → changed s n ≡ false → n ≡ length (w .file)
+unfolding changed
+same-length w s n i e = go (isIdle (s .step)) (eqb n (s .fixed .size)) (not-idle w s i) refl e
+  where
+    go : (a b : Bool) → a ≡ false → eqb n (s .fixed .size) ≡ b → pick a false (pick b false true) ≡ false → n ≡ length (w .file)
+    go true b x y e = absurd (true≢false x)
+    go false true x y e = eqb-true n (s .fixed .size) y ∙ i .sends .size-is
+    go false false x y e = absurd (true≢false e)
+
+-- a PDU in front of the out buffer is taken from there
+pdu-in : (bs out : List ℕ) (n : ℕ) → length bs ≡ n → 0 < n → n ≤ length out → pduIn n (inFront bs out) ≡ some bs
+pdu-in bs out zero e p h = absurd (omega arith)
+pdu-in bs out (suc n) e p h = ap some (ap (λ (k : ℕ). take k (inFront bs out)) (sym e) ∙ taken bs out (rw e h))
+
+pub encode-pos : (h : Head) (m : Said) → 0 < length (encode h m)
+unfolding pduLength
+encode-pos h m = rw (length-encode h m) (omega arith)
+
+small-some : (w : Transfer) (d : Sending) → Small (w .segment) d → 0 < length (bytesOf w d)
+small-some w NoPdu h = absurd h
+small-some w MetadataPdu h = encode-pos (w .head) _
+small-some w (FileData o n) h = encode-pos (w .head) _
+small-some w (EofPdu e) h = absurd h
+small-some w (AckFinished c) h = absurd h
+
+does-some : {w : Transfer} {q : List SegmentRequest} {k : TransactionStep} {p : ℕ} (d : Sending) (t : State) → Does w q k p d t → 0 < length (bytesOf w d)
+does-some {w} x y (Does.serves-one d t a b c e) = small-some w d c
+does-some {w} x y (Does.advances d t a b c e f) = small-some w d e
+does-some {w} x y (Does.closes t a b) = encode-pos (w .head) _
+
+module _ (w : Transfer) (s : State) (i : Inv w s) where
+  -- the lent file is the transfer's
+  sent-moves :
+      (expired : Bool) (out : List ℕ)
+      → let r = madeStep s (w .file) (dueOf s expired) (length out) in
+      Moves w s (unless (r .answer) (made (pduIn (r .length) (inFront (bytesDue s (w .file) expired) out)))) (r .state)
+  unfolding madeStep
+  sent-moves expired out = go (ltb (length out) (length bs)) refl
+    where
+      x : Sending
+      x = sendingOf s (w .file) (dueOf s expired)
+
+      bs : List ℕ
+      bs = bytesFor s (w .file) x
+
+      t : State
+      t = afterOf s (w .file) (dueOf s expired)
+
+      does : DoesFrom w s x t
+      does = due-does w s i expired
+
+      same : bs ≡ bytesOf w x
+      same = same-bytes w s (i .sends) x
+
+      go :
+          (b : Bool) → ltb (length out) (length bs) ≡ b
+          → let r = pick b (refusedStep s OutTooSmall) (record { answer = Accepted; length = length bs; events = eventsOf s (dueOf s expired); state = t }) in
+          Moves w s (unless (r .answer) (made (pduIn (r .length) (inFront bs out)))) (r .state)
+      go true e = refuses
+      go false e =
+          let some-bytes : 0 < length bs = rw same (does-some x t does) in
+          rw (pdu-in bs out (length bs) refl some-bytes (ltb-false (length out) (length bs) e), same) (emits x t does)
+
+  step-moves : (lent : List ℕ) (expired : Bool) (out : List ℕ) → LendsIn (w .file) (step lent expired out) → Moves w s (seen (step lent expired out) s) (after (step lent expired out) s)
+  unfolding stepSpec stepBytes
+  step-moves lent expired out l = go (changed s (length lent)) refl
+    where
+      go :
+          (b : Bool) → changed s (length lent) ≡ b
+          → let r = pick b (refusedStep s FileChanged) (madeStep s lent (dueOf s expired) (length out)) in
+          Moves w s (unless (r .answer) (made (pduIn (r .length) (pick b out (inFront (bytesDue s lent expired) out))))) (r .state)
+      go true e = refuses
+      go false e = rw (l (same-length w s (length lent) i e)) (sent-moves expired out)
+
+-- ---- deliveries
+
+-- a delivery with the requests rs is refused, or adds what they owe
+data Takes (w : Transfer) (s : State) (rs : List SegmentRequest) : Done → Type 0 where
+  turns : (r : Refusal) → Takes w s rs (refused s r)
+  adds :
+      (t : State)
+      → owedBy w t ≡ owedBy w s ++ answers (w .segment) rs
+      → planOf w t ≡ planOf w s
+      → Within (w .segment) (length (w .file)) (answers (w .segment) rs)
+      → Inv w t
+      → Takes w s rs (accepted t)
+
+module _ (w : Transfer) (s : State) (i : Inv w s) where
+  nak-takes :
+      (rs : List SegmentRequest)
+      → ((l : List SegmentRequest) → At (length (w .file)) (s .step) (s .file .progress) l)
+      → s .file .progress ≤ length (w .file)
+      → Takes w s rs (nakOf s rs)
+  unfolding nakOf
+  nak-takes rs h l = go (takesNak s) (anyInvalid (s .file .progress) rs) (ltb (free (s .queue)) (owing rs)) refl refl
+    where
+      L : ℕ
+      L = w .segment
+
+      q : Queue
+      q = pushAll (s .queue) rs
+
+      go :
+          (a b c : Bool) → anyInvalid (s .file .progress) rs ≡ b → ltb (free (s .queue)) (owing rs) ≡ c
+          → Takes w s rs
+          (pick a (pick b (refused s InvalidNakPdu) (pick c (refused s RetransmitFull) (accepted (withQueue s (pushAll (s .queue) rs))))) (refused s UnexpectedPdu))
+      go false b c x y = turns UnexpectedPdu
+      go true true c x y = turns InvalidNakPdu
+      go true false true x y = turns RetransmitFull
+      go true false false x y =
+          let e = pending-all (s .queue) rs (i .formed) y in
+          adds (withQueue s q)
+          (rw (e, answers-append L (pending (s .queue)) (those rs), answers-those L (i .pos) rs))
+          refl
+          (answers-within L (i .pos) (length (w .file)) (s .file .progress) rs l x)
+          (held w s i (s .step) (s .file) q (formed-all (s .queue) rs (i .formed) y)
+          (rw e (owe-append (pending (s .queue)) (those rs) (i .owe) (owe-those rs))) (h (pending q)))
+
+  no-effect : Takes w s [] (accepted s)
+  unfolding answers
+  no-effect = adds s (sym (append-nil (owedBy w s))) refl tt i
+
+  module _ (bytes : List ℕ) (f : Frame) where
+    -- by the table, step by step
+    by-table :
+        (k : TransactionStep) (m : Meaning) → s .step ≡ k → At (length (w .file)) k (s .file .progress) (pending (s .queue))
+        → Takes w s (asked bytes f m) (byVerdict s bytes f m (verdictOf k m))
+    unfolding verdictOf
+    by-table Idle m e h = absurd h
+    by-table SendingMetadata (Finished p) e h = turns UnexpectedPdu
+    by-table SendingMetadata AckOfEof e h = turns UnexpectedPdu
+    by-table SendingMetadata (Nak n) e h = turns UnexpectedPdu
+    by-table SendingMetadata (KeepAlive p) e h = no-effect
+    by-table SendingFileData (Finished p) e h = turns UnexpectedPdu
+    by-table SendingFileData AckOfEof e h = turns UnexpectedPdu
+    by-table SendingFileData (Nak n) e h = nak-takes (requestsIn bytes f n) (λ l. rw e h) (omega arith)
+    by-table SendingFileData (KeepAlive p) e h = no-effect
+    by-table SendingEof (Finished p) e h = turns UnexpectedPdu
+    by-table SendingEof AckOfEof e h = turns UnexpectedPdu
+    by-table SendingEof (Nak n) e h = nak-takes (requestsIn bytes f n) (λ l. rw e h) (omega arith)
+    by-table SendingEof (KeepAlive p) e h = no-effect
+    by-table WaitingForEofAck m e h = absurd h
+    by-table WaitingForFinished m e h = absurd h
+    by-table Closing m e h = absurd h
+
+    heard-takes : (m : Meaning) → Takes w s (asked bytes f m) (heard s bytes f m)
+    unfolding heard
+    heard-takes m = go (isIdle (s .step)) (sameTransaction (s .fixed .head) (f .head)) (by-table (s .step) m refl (i .here))
+      where
+        go :
+            (a b : Bool)
+            → Takes w s (asked bytes f m) (byVerdict s bytes f m (verdictOf (s .step) m))
+            → Takes w s (asked bytes f m)
+            (pick a (byVerdict s bytes f m (verdictOf (s .step) m)) (pick b (byVerdict s bytes f m (verdictOf (s .step) m)) (refused s OtherTransaction)))
+        go true b k = k
+        go false true k = k
+        go false false k = turns OtherTransaction
+
+    body-takes : (b : Body) → Takes w s (requestsOfBody bytes f b) (byBody s bytes f b)
+    body-takes NoBody = turns Malformed
+    body-takes CantProcess = turns CantProcessPacketType
+    body-takes (Means m) = heard-takes m
+
+  frame-takes : (bytes : List ℕ) (f : Framed) → Takes w s (requestsOfFrame bytes f) (byFrame s bytes f)
+  frame-takes bytes NoFrame = turns Malformed
+  frame-takes bytes (Whole f) = body-takes bytes f (bodyOf f (part bytes (f .start) (f .end - f .start)))
+
+  took-moves : (bytes : List ℕ) (r : Done) → Takes w s (requests bytes) r → Moves w s (unless (r .answer) (took bytes)) (r .state)
+  took-moves bytes r (Takes.turns n) = refuses
+  took-moves bytes r (Takes.adds t a b c j) = takes bytes t a b c j
+
+  deliver-moves : (bytes : List ℕ) → Moves w s (seen (deliver bytes) s) (after (deliver bytes) s)
+  unfolding deliverSpec requests
+  deliver-moves bytes = took-moves bytes (deliverSpec s bytes) (frame-takes bytes (framedIn bytes))
+
+  -- ---- all calls
+
+  -- a handler that is busy refuses every put
+  put-busy : (c : LocalEntityConfig) (q : PutRequest) (a b : List ℕ) (S : ℕ) → putAnswer s c q a b S ≡ Refused AlreadyBusy
+  unfolding putAnswer
+  put-busy c q a b S = rw (not-idle w s i)
+
+  put-moves : (c : LocalEntityConfig) (q : PutRequest) (a b : List ℕ) (S : ℕ) → Moves w s (seen (put c q a b S) s) (after (put c q a b S) s)
+  unfolding putSpec
+  put-moves c q a b S = go (putAnswer s c q a b S) (put-busy c q a b S)
+    where
+      go : (x : Answer) → x ≡ Refused AlreadyBusy → let r = byAnswer s (putState s c q a b S) x in Moves w s (unless (r .answer) began) (r .state)
+      go Accepted e = absurd (let z : _≡_ {A = ℕ} 0 1 = cc in omega arith)
+      go (Refused n) e = refuses
+
+  cancel-moves : (source : EntityId) (number : TransactionSeqNum) → Moves w s (seen (cancel source number) s) (after (cancel source number) s)
+  unfolding cancelSpec
+  cancel-moves source number = go (mayCancel s source number)
+    where
+      go :
+          (b : Bool)
+          → let r = pick {A = Cancelled} b (record { yes = true; state = userCancelled s }) (record { yes = false; state = s }) in Moves w s (pick (r .yes) ended turned) (r .state)
+      go true = ends (userCancelled s)
+      go false = refuses
+
+  pub call-moves : (c : Call) → LendsIn (w .file) c → Moves w s (seen c s) (after c s)
+  call-moves (put c q a b S) l = put-moves c q a b S
+  call-moves (deliver bytes) l = deliver-moves bytes
+  call-moves (step lent expired out) l = step-moves w s i lent expired out l
+  call-moves (cancel source number) l = cancel-moves source number
+  call-moves reset l = ends _
