@@ -17,3 +17,4 @@ pub mod Calls
 pub mod Tiles
 pub mod Runs
 pub mod Demand
+pub mod ChecksumCases
