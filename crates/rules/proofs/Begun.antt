@@ -31,6 +31,7 @@ use Rattle.rules.specs.declared.RemoteEntityConfig.{RemoteEntityConfig}
 use Rattle.rules.specs.declared.LocalEntityConfig.{LocalEntityConfig}
 use Rattle.rules.specs.declared.PutRequest.{PutRequest}
 use Rattle.rules.specs.declared.State.{State}
+use Rattle.rules.specs.declared.TransactionStep.the-variants.{SendingMetadata}
 use Rattle.rules.specs.declared.Refusal.{Refusal}
 use Rattle.rules.specs.declared.Answer.{Answer}
 use Rattle.rules.specs.declared.Answer.the-variants.{Accepted, Refused}
@@ -250,3 +251,7 @@ module _ (h : State) (c : LocalEntityConfig) (q : PutRequest) (source destinatio
           here = (refl, refl);
         }
       )
+
+  pub begun-step : putSpec h c q source destination (length file) .state .step ≡ SendingMetadata
+  unfolding putState started
+  begun-step = rw (p .state-is)
