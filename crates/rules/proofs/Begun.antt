@@ -193,25 +193,25 @@ name-kept name h = rw (le-ltb 255 (length name) h) (take-append-seam name (repli
 -- ---- what the put makes
 
 module _ (h : State) (c : LocalEntityConfig) (q : PutRequest) (source destination file : List ℕ) (p : Passed h c q source destination (length file)) where
-  abbrev entry : RemoteEntityConfig
+  abbrev pub entry : RemoteEntityConfig
   entry = entryOf c (q .destination .1)
 
-  abbrev head : Head
+  abbrev pub head : Head
   head = headOf c entry q (h .number) (length file)
 
-  abbrev transfer : Transfer
+  abbrev pub transfer : Transfer
   transfer = transferOf c q (h .number) source destination file
 
   good : Entry entry
   good = entry-good entry (c .actions) (p .config)
 
-  names : ((0 < length source) × (length source ≤ 255)) × ((0 < length destination) × (length destination ≤ 255))
+  pub names : ((0 < length source) × (length source ≤ 255)) × ((0 < length destination) × (length destination ≤ 255))
   names = name-lengths (length source) (length destination) (p .lengths)
 
-  room : H head + F (head .large) + C (head .crc) + 4 + length source + length destination ≤ entry .maxpacket
+  pub room : H head + F (head .large) + C (head .crc) + 4 + length source + length destination ≤ entry .maxpacket
   room = packet-holds head entry source destination (p .short)
 
-  range : (0 < transfer .segment) × (transfer .segment ≤ 4096) × (H head + F (head .large) + C (head .crc) + transfer .segment ≤ entry .maxpacket)
+  pub range : (0 < transfer .segment) × (transfer .segment ≤ 4096) × (H head + F (head .large) + C (head .crc) + transfer .segment ≤ entry .maxpacket)
   range = segment-range head entry (length source + length destination) good (let r = room in omega arith)
 
   pub carries : Bytes file → length file < 2 ^ 64 → Carries transfer

@@ -12,6 +12,7 @@ use lib.ListN.{length, length-append, length-map}
 use Rattle.rules.specs.Layout.{Pdu}
 use Rattle.rules.specs.Queues.{pending}
 use Rattle.rules.specs.Decoding.{decode}
+use Rattle.rules.specs.PduLaws.{Fit}
 use Rattle.rules.specs.Put.{putSpec}
 use Rattle.rules.specs.Tiles.{ceil, tiles, answers, weights}
 use Rattle.rules.specs.Runs.{Call, Event, turned, began, took, made, ended, after, seen, trace, behind, LendsIn, Lends, steps, isEof, BeforeEof, NoPut, requests, owed, R, firstPass, repairs}
@@ -22,7 +23,7 @@ use Rattle.rules.specs.declared.TransactionStep.{TransactionStep}
 use Rattle.rules.specs.declared.TransactionStep.the-variants.{Idle, SendingMetadata, SendingFileData, SendingEof, WaitingForEofAck, WaitingForFinished, Closing}
 use Rattle.rules.specs.declared.Sending.{Sending}
 use Rattle.rules.specs.declared.Sending.the-variants.{Metadata as MetadataPdu}
-use Rattle.rules.proofs.Tiles.{length-tiles, length-answers, Within, within-append, tiles-within}
+use Rattle.rules.proofs.Tiles.{length-tiles, length-answers, Within, within-append, tiles-within, sizes, sizes-tiles}
 use Rattle.rules.proofs.Hold.{bytesOf, plan, At, Inv, planOf, owedBy, Small, Does, DoesFrom, Moves, call-moves}
 use Rattle.rules.proofs.Stream.{Carries, last-read, all-read, small-no-eof, last-eof, planned-file, planned-within}
 use Rattle.rules.proofs.Begun.{put-passed, carries, begun, begun-step}
@@ -45,7 +46,7 @@ none-owed : (w : Transfer) (s : State) → pending (s .queue) ≡ [] → owedBy 
 unfolding answers
 none-owed w s e = rw e
 
-module _ (w : Transfer) (c : Carries w) (cs : List Call) (ih : (t : State) → Inv w t → BeforeEof (trace cs t) → Kept w t (trace cs t) (behind cs t)) where
+module _ (w : Transfer) (g : Fit (w .head)) (cs : List Call) (ih : (t : State) → Inv w t → BeforeEof (trace cs t) → Kept w t (trace cs t) (behind cs t)) where
   on-does :
       (s : State) (d : Sending) (t : State)
       → DoesFrom w s d t
@@ -81,7 +82,7 @@ module _ (w : Transfer) (c : Carries w) (cs : List Call) (ih : (t : State) → I
         within = k .within;
         counted = omega arith;
       }
-  on-does s x y (Does.closes t q p) f = absurd (true≢false (sym (last-eof w c) ∙ f .0))
+  on-does s x y (Does.closes t q p) f = absurd (true≢false (sym (last-eof w g) ∙ f .0))
 
   on-call :
       (s : State) (e : Event) (t : State)
@@ -115,16 +116,16 @@ module _ (w : Transfer) (c : Carries w) (cs : List Call) (ih : (t : State) → I
 
 -- over any run with no EOF yet
 pub kept :
-    (w : Transfer) → Carries w → (cs : List Call) (s : State)
+    (w : Transfer) → Fit (w .head) → (cs : List Call) (s : State)
     → Inv w s
     → Lends (w .file) cs
     → BeforeEof (trace cs s)
     → Kept w s (trace cs s) (behind cs s)
 unfolding trace behind firstPass repairs owed steps R
-kept w c [] s i l f =
+kept w g [] s i l f =
     record { inv = i; no-put = tt; first = refl; repaired = sym (append-nil (map (bytesOf w) (owedBy w s))); within = tt; counted = omega arith }
-kept w c (x ∷ cs) s i l f =
-    on-call w c cs (λ t j g. kept w c cs t j (l .1) g) s (seen x s) (after x s) i (call-moves w s i x (l .0)) f
+kept w g (x ∷ cs) s i l f =
+    on-call w g cs (λ t j b. kept w g cs t j (l .1) b) s (seen x s) (after x s) i (call-moves w s i x (l .0)) f
 
 -- ---- the place in a run
 
@@ -152,26 +153,44 @@ place file (c ∷ cs) s (v ∷ es) fs l e =
       lends-rest = k .lends-rest;
     }
 
--- the plan has an end, the EOF; before it only what can be read
-plan-ends : (w : Transfer) (k : TransactionStep) (p : ℕ) (q : List SegmentRequest) → 0 < w .segment → At (length (w .file)) k p q
-    → (r : List Sending) × (plan w k p ≡ r ++ lastly w ∷ []) × Within (w .segment) (length (w .file)) r
+-- the plan's end is the EOF; before it stands what can be read, with all bytes that are still to be sent
+pub record Ends (w : Transfer) (l : List Sending) (p : ℕ) : Type 0 where
+  pub front : List Sending
+  pub split : l ≡ front ++ lastly w ∷ []
+  pub within : Within (w .segment) (length (w .file)) front
+  pub left : sizes front + p ≡ length (w .file)
+
+plan-ends : (w : Transfer) (k : TransactionStep) (p : ℕ) (q : List SegmentRequest) → 0 < w .segment → At (length (w .file)) k p q → Ends w (plan w k p) p
+unfolding sizes
 plan-ends w Idle p q l h = absurd h
 plan-ends w SendingMetadata p q l h =
-    (MetadataPdu ∷ tiles (w .segment) p (length (w .file) - p), refl, tiles-within (w .segment) (length (w .file)) p (length (w .file) - p) l (omega arith))
+    let e = sizes-tiles (w .segment) p (length (w .file) - p) l in
+    record {
+      front = MetadataPdu ∷ tiles (w .segment) p (length (w .file) - p);
+      split = refl;
+      within = tiles-within (w .segment) (length (w .file)) p (length (w .file) - p) l (omega arith);
+      left = omega arith;
+    }
 plan-ends w SendingFileData p q l h =
-    (tiles (w .segment) p (length (w .file) - p), refl, tiles-within (w .segment) (length (w .file)) p (length (w .file) - p) l (omega arith))
-plan-ends w SendingEof p q l h = ([], refl, tt)
+    let e = sizes-tiles (w .segment) p (length (w .file) - p) l in
+    record {
+      front = tiles (w .segment) p (length (w .file) - p);
+      split = refl;
+      within = tiles-within (w .segment) (length (w .file)) p (length (w .file) - p) l (omega arith);
+      left = omega arith;
+    }
+plan-ends w SendingEof p q l h = record { front = []; split = refl; within = tt; left = omega arith }
 plan-ends w WaitingForEofAck p q l h = absurd h
 plan-ends w WaitingForFinished p q l h = absurd h
 plan-ends w Closing p q l h = absurd h
 
-pub ending : (w : Transfer) (t : State) → Inv w t → (r : List Sending) × (planOf w t ≡ r ++ lastly w ∷ []) × Within (w .segment) (length (w .file)) r
+pub ending : (w : Transfer) (t : State) → Inv w t → Ends w (planOf w t) (t .file .progress)
 ending w t i = plan-ends w (t .step) (t .file .progress) (pending (t .queue)) (i .pos) (i .here)
 
 plan-pos : (w : Transfer) (t : State) → Inv w t → 0 < length (planOf w t)
 plan-pos w t i =
     let r = ending w t i in
-    let l = simp length-append at (ap length (r .1)) in
+    let l = simp length-append at (ap length (r .split)) in
     omega arith
 
 length-owed : (L : ℕ) (es : List Event) → length (owed L es) ≡ R L es
@@ -193,7 +212,7 @@ module _ (w : Transfer) (c : Carries w) (s : State) (i : Inv w s) (a : s .step �
   plan-is = rw (a, at-start .1, sub-zero (length (w .file)))
 
   -- what is sent, and what is still to come, besides repairs
-  pub first-pass : firstPass (w .segment) 0 es ++ map (bytesOf w) (planOf w t) ≡ map (bytesOf w) (planned w ++ lastly w ∷ [])
+  first-pass : firstPass (w .segment) 0 es ++ map (bytesOf w) (planOf w t) ≡ map (bytesOf w) (planned w ++ lastly w ∷ [])
   first-pass =
       let z : length (owedBy w s) ≡ 0 = ap length (none-owed w s (at-start .0)) in
       (rw z at (k .first)) ∙ ap (map (bytesOf w)) plan-is
@@ -235,7 +254,7 @@ module _ (w : Transfer) (c : Carries w) (s : State) (i : Inv w s) (a : s .step �
       record {
         early = omega arith;
         one-each = omega arith;
-        tiling = (map decode (map (bytesOf w) (r .0)), front-read (firstPass (w .segment) 0 es) (r .0) (planned w) (planned-within w c) (first-cut (r .0) (r .1)));
+        tiling = (map decode (map (bytesOf w) (r .front)), front-read (firstPass (w .segment) 0 es) (r .front) (planned w) (planned-within w c) (first-cut (r .front) (r .split)));
         answering = (map decode (map (bytesOf w) (owedBy w t)), front-read (repairs (w .segment) 0 es) (owedBy w t) (owed (w .segment) es) (k .within) repaired-all);
         no-put = k .no-put;
       }
@@ -264,18 +283,18 @@ module _ (w : Transfer) (c : Carries w) (s : State) (i : Inv w s) (a : s .step �
       let lq = ap length q in
       let lp = plan-pos w t (k .inv) in
       let tot = total in
-      not-yet (some (bytesOf w d)) (small-no-eof w c d z) (omega arith)
+      not-yet (some (bytesOf w d)) (small-no-eof w (c .fit) d z) (omega arith)
   on-emitted x y (Does.advances d u q v p z j) =
       let ll = ap length p in
       let lp = plan-pos w u j in
       let tot = total in
-      not-yet (some (bytesOf w d)) (small-no-eof w c d z) (omega arith)
+      not-yet (some (bytesOf w d)) (small-no-eof w (c .fit) d z) (omega arith)
   on-emitted x y (Does.closes u q p) =
       let ll = ap length p in
       let lq = ap length (none-owed w t q) in
       let tot = total in
       record {
-        when = ((λ y. omega arith), (λ z. last-eof w c));
+        when = ((λ y. omega arith), (λ z. last-eof w (c .fit)));
         what = λ y. (bytesOf w (lastly w), refl, at-last q p);
       }
 
@@ -303,7 +322,7 @@ at-place w c s i a es fs p f =
     t = behind (p .before) s
 
     k : Kept w s es t
-    k = rw (p .shown) at (kept w c (p .before) s i (p .lends-before) (rw (p .shown) f))
+    k = rw (p .shown) at (kept w (c .fit) (p .before) s i (p .lends-before) (rw (p .shown) f))
 
 pub third-demand : ThirdDemand
 third-demand h c q source destination file b l a cs lends es fs e f =

@@ -287,7 +287,7 @@ module _ (w : Transfer) (s : State) (i : Inv w s) where
     by-step expired Closing a h = absurd h
 
   -- a cancel's EOF is not due; repairs come first
-  due-does : (expired : Bool) → DoesFrom w s (sendingOf s (w .file) (dueOf s expired)) (afterOf s (w .file) (dueOf s expired))
+  pub due-does : (expired : Bool) → DoesFrom w s (sendingOf s (w .file) (dueOf s expired)) (afterOf s (w .file) (dueOf s expired))
   unfolding dueOf eofOwed
   due-does expired = go (s .marks .cancelled) (ltb 0 (s .queue .count)) (i .unmarked) refl
     where

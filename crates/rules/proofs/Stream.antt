@@ -35,6 +35,19 @@ pub record Carries (w : Transfer) : Type 0 where
   pub pos : 0 < w .segment
   pub sum : sumOf (w .type) (w .file) < 2 ^ 32
 
+-- ---- is it an EOF
+
+module _ (w : Transfer) (f : Fit (w .head)) where
+  pub small-no-eof : (d : Sending) → Small (w .segment) d → isEofIn (bytesOf w d) ≡ false
+  small-no-eof NoPdu h = absurd h
+  small-no-eof MetadataPdu h = eof-seen (w .head) _ f
+  small-no-eof (FileData o n) h = eof-seen (w .head) _ f
+  small-no-eof (EofPdu e) h = absurd h
+  small-no-eof (AckFinished k) h = absurd h
+
+  pub last-eof : isEofIn (bytesOf w (lastly w)) ≡ true
+  last-eof = eof-seen (w .head) _ f
+
 module _ (w : Transfer) (c : Carries w) where
   -- ---- each PDU
 
@@ -61,18 +74,6 @@ module _ (w : Transfer) (c : Carries w) where
   all-read (FileData o n ∷ ps) h = ap₂ (λ (a : Option Pdu) (l : List (Option Pdu)). a ∷ l) (data-read o n (h .0) (h .1)) (all-read ps (h .2))
   all-read (EofPdu e ∷ ps) h = absurd h
   all-read (AckFinished k ∷ ps) h = absurd h
-
-  -- ---- is it an EOF
-
-  pub small-no-eof : (d : Sending) → Small (w .segment) d → isEofIn (bytesOf w d) ≡ false
-  small-no-eof NoPdu h = absurd h
-  small-no-eof MetadataPdu h = eof-seen (w .head) _ (c .fit)
-  small-no-eof (FileData o n) h = eof-seen (w .head) _ (c .fit)
-  small-no-eof (EofPdu e) h = absurd h
-  small-no-eof (AckFinished k) h = absurd h
-
-  pub last-eof : isEofIn (bytesOf w (lastly w)) ≡ true
-  last-eof = eof-seen (w .head) _ (c .fit)
 
   -- ---- the file data in them
 

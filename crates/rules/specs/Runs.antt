@@ -130,6 +130,24 @@ NoPut (took bytes ∷ es) = NoPut es
 NoPut (made d ∷ es) = NoPut es
 NoPut (ended ∷ es) = NoPut es
 
+-- no cancel was taken and no reset was made
+abbrev pub NoEnd : List Event → Type 0
+NoEnd [] = Unit {0}
+NoEnd (turned ∷ es) = NoEnd es
+NoEnd (began ∷ es) = NoEnd es
+NoEnd (took bytes ∷ es) = NoEnd es
+NoEnd (made d ∷ es) = NoEnd es
+NoEnd (ended ∷ es) = ⊥
+
+-- no call but steps was accepted
+abbrev pub StepsOnly : List Event → Type 0
+StepsOnly [] = Unit {0}
+StepsOnly (turned ∷ es) = StepsOnly es
+StepsOnly (began ∷ es) = ⊥
+StepsOnly (took bytes ∷ es) = ⊥
+StepsOnly (made d ∷ es) = StepsOnly es
+StepsOnly (ended ∷ es) = ⊥
+
 -- the requests in a delivery's bytes: a NAK's pairs; none in any other
 abbrev pub requestsOfBody : List ℕ → Frame → Body → List SegmentRequest
 requestsOfBody bytes f NoBody = []
@@ -160,11 +178,20 @@ R L (took bytes ∷ es) = weights L (requests bytes) + R L es
 R L (made d ∷ es) = R L es
 R L (ended ∷ es) = R L es
 
--- The emitted PDUs, told apart. k is how many PDUs are owed to NAKs and not yet emitted: while there are any, an emitted PDU is a repair.
 abbrev pub list : Option (List ℕ) → List (List ℕ)
 list none = []
 list (some b) = b ∷ []
 
+-- the emitted PDUs
+unfoldable pub emitted : List Event → List (List ℕ)
+emitted [] = []
+emitted (turned ∷ es) = emitted es
+emitted (began ∷ es) = emitted es
+emitted (took bytes ∷ es) = emitted es
+emitted (made d ∷ es) = list d ++ emitted es
+emitted (ended ∷ es) = emitted es
+
+-- The emitted PDUs, told apart. k is how many PDUs are owed to NAKs and not yet emitted: while there are any, an emitted PDU is a repair.
 unfoldable pub firstPass : ℕ → ℕ → List Event → List (List ℕ)
 firstPass L k [] = []
 firstPass L k (turned ∷ es) = firstPass L k es

@@ -1,0 +1,186 @@
+-- The third demand's companions before the EOF: no step is refused that has the packet maximum's room, progress is what the first pass has carried,
+-- a used handler is as a fresh one. From `Kept`, and from what an accepted put knows of lengths.
+-- Assumes nothing.
+use mathlib.Core.Path.{_≡_, refl, sym, ap, _∙_}
+use mathlib.Core.Bool.{Bool, true, false, true≢false}
+use mathlib.Core.List.{List, [], _∷_, _++_, map}
+use Prim.Native.Nat.{ℕ, _+_, _-_, _*_, _≤_, _<_, min}
+use native.Mathlib.Omega.{arith}
+use lib.Dec.{eqb, ltb}
+use lib.ListN.{length, take, drop, length-take}
+use borrow.Author.Tests.{le-ltb, eq-eqb}
+use Rattle.basis.specs.Pick.{pick}
+use Rattle.basis.specs.Bytes.{part}
+use Rattle.rules.specs.Numbers.{H, F, C}
+use Rattle.rules.specs.Layout.{encodeHeard, nak, pduLength}
+use Rattle.rules.specs.Reading.{framedIn, frameIn, headIn, bodyIn, bodyOf, requestsFrom}
+use Rattle.rules.specs.PduLaws.{Fit, firstPair}
+use Rattle.rules.specs.States.{isIdle, idle}
+use Rattle.rules.specs.Deliver.{requestsIn}
+use Rattle.rules.specs.Put.{entryOf, putSpec, putAnswer, putState, byAnswer}
+use Rattle.rules.specs.Step.{dueOf, sendingOf, bytesFor, changed, made as madeStep, stepSpec}
+use Rattle.rules.specs.Cancel.{newSpec}
+use Rattle.rules.specs.Runs.{Call, Event, trace, behind, Lends, BeforeEof, firstPass, requestsOfFrame, requestsOfBody, requests}
+use Rattle.rules.specs.Demand.{Transfer, planned, lastly, carried, Live, ProgressMade, SecondPut, NakAsks}
+use Rattle.rules.specs.declared.Head.{Head}
+use Rattle.rules.specs.declared.Frame.{Frame}
+use Rattle.rules.specs.declared.LocalEntityConfig.{LocalEntityConfig}
+use Rattle.rules.specs.declared.PutRequest.{PutRequest}
+use Rattle.rules.specs.declared.SegmentRequest.{SegmentRequest}
+use Rattle.rules.specs.declared.State.{State}
+use Rattle.rules.specs.declared.TransactionStep.{TransactionStep}
+use Rattle.rules.specs.declared.TransactionStep.the-variants.{SendingMetadata}
+use Rattle.rules.specs.declared.Sending.{Sending}
+use Rattle.rules.specs.declared.Sending.the-variants.{Nothing as NoPdu, Metadata as MetadataPdu, FileData, Eof as EofPdu, AckFinished}
+use Rattle.rules.specs.declared.Answer.{Answer}
+use Rattle.rules.specs.declared.Answer.the-variants.{Accepted, Refused}
+use Rattle.rules.proofs.Round.{length-encode}
+use Rattle.rules.proofs.Heard.{heard-read}
+use Rattle.rules.proofs.Tiles.{sizes, sizes-tiles}
+use Rattle.rules.proofs.Hold.{bytesOf, same-bytes, Inv, Small, Does, due-does}
+use Rattle.rules.proofs.Stream.{Carries, carried-sizes, planned-within}
+use Rattle.rules.proofs.Begun.{Passed, put-passed, head-fit, names, room, range, carries, begun, begun-step}
+use Rattle.rules.proofs.Demand.{Kept, kept, ending, first-cut}
+
+-- ---- every PDU before the EOF, and the EOF, fits n bytes
+
+record Wide (w : Transfer) (n : ℕ) : Type 0 where
+  source : 0 < length (w .source)
+  destination : 0 < length (w .destination)
+  metadata-fits : H (w .head) + F (w .head .large) + C (w .head .crc) + 4 + length (w .source) + length (w .destination) ≤ n
+  data-fits : H (w .head) + F (w .head .large) + C (w .head .crc) + w .segment ≤ n
+
+small-fits : (w : Transfer) (n : ℕ) → Wide w n → (d : Sending) → Small (w .segment) d → length (bytesOf w d) ≤ n
+unfolding pduLength
+small-fits w n i NoPdu h = absurd h
+small-fits w n i MetadataPdu h = let a = i .metadata-fits in rw (length-encode (w .head) _) (omega arith)
+small-fits w n i (FileData o k) h =
+    let a = i .data-fits in
+    let l : length (take k (drop o (w .file))) ≤ k = rw (length-take k (drop o (w .file))) (omega arith) in
+    rw (length-encode (w .head) _) (omega arith)
+small-fits w n i (EofPdu e) h = absurd h
+small-fits w n i (AckFinished c) h = absurd h
+
+last-fits : (w : Transfer) (n : ℕ) → Wide w n → length (bytesOf w (lastly w)) ≤ n
+unfolding pduLength
+last-fits w n i = let a = i .metadata-fits in let b = i .source in let c = i .destination in rw (length-encode (w .head) _) (omega arith)
+
+does-fit : {w : Transfer} {q : List SegmentRequest} {k : TransactionStep} {p : ℕ} (n : ℕ) → Wide w n → (d : Sending) (t : State) → Does w q k p d t → length (bytesOf w d) ≤ n
+does-fit {w} n i x y (Does.serves-one d t a b c j) = small-fits w n i d c
+does-fit {w} n i x y (Does.advances d t a b c e j) = small-fits w n i d e
+does-fit {w} n i x y (Does.closes t a b) = last-fits w n i
+
+unchanged : (w : Transfer) (s : State) → Inv w s → changed s (length (w .file)) ≡ false
+unfolding changed
+unchanged w s i = rw (eq-eqb (length (w .file)) (s .fixed .size) (sym (i .sends .size-is))) (go (isIdle (s .step)))
+  where
+    go : (b : Bool) → pick b false false ≡ false
+    go true = refl
+    go false = refl
+
+step-live : (w : Transfer) (s : State) → Inv w s → (n : ℕ) → Wide w n → (expired : Bool) (m : ℕ) → n ≤ m → stepSpec s (w .file) expired m .answer ≡ Accepted
+unfolding stepSpec madeStep
+step-live w s i n z expired m l =
+    let d = sendingOf s (w .file) (dueOf s expired) in
+    let e : length (bytesFor s (w .file) d) ≤ n = rw (same-bytes w s (i .sends) d) (does-fit n z d _ (due-does w s i expired)) in
+    let b : ltb m (length (bytesFor s (w .file) d)) ≡ false = le-ltb m (length (bytesFor s (w .file) d)) (omega arith) in
+    rw (unchanged w s i, b)
+
+pub live : Live
+live h c q source destination file a cs l f expired m n =
+    let p = put-passed h c q source destination (length file) a in
+    let s = putSpec h c q source destination (length file) .state in
+    let e = entryOf c (q .destination .1) in
+    let k = kept _ (head-fit c e q (h .number) (length file) (p .ids)) cs s (begun h c q source destination file p) l f in
+    let y = names h c q source destination file p in
+    step-live _ (behind cs s) (k .inv) (e .maxpacket)
+    (record {
+      source = y .0 .0;
+      destination = y .1 .0;
+      metadata-fits = room h c q source destination file p;
+      data-fits = range h c q source destination file p .2;
+    })
+    expired m n
+
+-- ---- progress
+
+carried-append : (xs ys : List (List ℕ)) → carried (xs ++ ys) ≡ carried xs + carried ys
+unfolding carried
+carried-append [] ys = omega arith
+carried-append (x ∷ xs) ys = let i = carried-append xs ys in omega arith
+
+progress-sent : (w : Transfer) → Carries w → (s : State) → Inv w s → s .step ≡ SendingMetadata → (es : List Event) (t : State) → Kept w s es t
+    → t .file .progress ≡ carried (firstPass (w .segment) 0 es)
+unfolding sizes
+progress-sent w c s i a es t k =
+    let r = ending w t (k .inv) in
+    let e = ap carried (first-cut w c s i a es t k (r .front) (r .split)) in
+    let f = carried-append (firstPass (w .segment) 0 es) (map (bytesOf w) (r .front)) in
+    let g = carried-sizes w c (r .front) (r .within) in
+    let j = carried-sizes w c (planned w) (planned-within w c) in
+    let z = sizes-tiles (w .segment) 0 (length (w .file)) (c .pos) in
+    let l = r .left in
+    omega arith
+
+pub progress-made : ProgressMade
+progress-made h c q source destination file b z a cs l f =
+    let p = put-passed h c q source destination (length file) a in
+    let s = putSpec h c q source destination (length file) .state in
+    let y = carries h c q source destination file p b z in
+    let i = begun h c q source destination file p in
+    progress-sent _ y s i (begun-step h c q source destination file p) (trace cs s) (behind cs s) (kept _ (y .fit) cs s i l f)
+
+-- ---- a used handler and a fresh one
+
+same-answer : (h : State) (c : LocalEntityConfig) (q : PutRequest) (a b : List ℕ) (S : ℕ) → isIdle (h .step) ≡ true
+    → putAnswer h c q a b S ≡ putAnswer (newSpec (h .number)) c q a b S
+unfolding putAnswer newSpec idle
+same-answer h c q a b S e = rw e
+
+same-state : (h : State) (c : LocalEntityConfig) (q : PutRequest) (a b : List ℕ) (S : ℕ) → putState h c q a b S ≡ putState (newSpec (h .number)) c q a b S
+unfolding putState newSpec idle
+same-state h c q a b S = refl
+
+answer-by : (s t : State) (x : Answer) → byAnswer s t x .answer ≡ x
+answer-by s t Accepted = refl
+answer-by s t (Refused r) = refl
+
+state-by : (s t : State) (x : Answer) → x ≡ Accepted → byAnswer s t x .state ≡ t
+state-by s t x e = rw e
+
+pub second-put : SecondPut
+unfolding putSpec
+second-put h c q a b S e =
+    let g = newSpec (h .number) in
+    let x = putAnswer h c q a b S in
+    let y = putAnswer g c q a b S in
+    let same = same-answer h c q a b S e in
+    let one : (x ≡ Accepted) → byAnswer h (putState h c q a b S) x .state ≡ byAnswer g (putState g c q a b S) y .state =
+    λ k. state-by h (putState h c q a b S) x k ∙ same-state h c q a b S ∙ sym (state-by g (putState g c q a b S) y (sym same ∙ k)) in (
+      answer-by h (putState h c q a b S) x ∙ same ∙ sym (answer-by g (putState g c q a b S) y),
+      λ k. let u = one (sym (answer-by h (putState h c q a b S) x) ∙ k) in (u, λ cs. ap (trace cs) u),
+    )
+
+-- ---- a peer's NAK
+
+body-same : (s : List ℕ) → part s (frameIn s .start) (frameIn s .end - frameIn s .start) ≡ bodyIn s
+unfolding frameIn bodyIn
+body-same s = refl
+
+start-same : (s : List ℕ) → frameIn s .start ≡ H (frameIn s .head)
+unfolding frameIn headIn
+start-same s = refl
+
+asked-at : (s : List ℕ) (f : Frame) (h : Head) (n : ℕ) → f .head ≡ h → f .start ≡ H (f .head) → requestsIn s f n ≡ requestsFrom n (h .large) s (firstPair h)
+unfolding requestsIn
+asked-at s f h n a b = let e : f .start ≡ H h = b ∙ ap H a in rw (e, a)
+
+pub nak-asks : NakAsks
+unfolding requests
+nak-asks h from upto rs f y l =
+    let s = encodeHeard h (nak from upto rs) in
+    let r = heard-read h (nak from upto rs) f y l in
+    ap (requestsOfFrame s) (r .0)
+    ∙ ap (requestsOfBody s (frameIn s)) (ap (bodyOf (frameIn s)) (body-same s) ∙ r .2)
+    ∙ asked-at s (frameIn s) h (length rs) (r .1) (start-same s)
+    ∙ r .3
