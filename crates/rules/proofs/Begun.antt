@@ -38,7 +38,8 @@ use Rattle.rules.specs.declared.Answer.the-variants.{Accepted, Refused}
 use Rattle.rules.proofs.Sums.{sum-lt}
 use Rattle.rules.proofs.Round.{size-fits}
 use Rattle.rules.proofs.Pending.{Formed}
-use Rattle.rules.proofs.Hold.{Sends, Inv}
+use Rattle.rules.proofs.Emits.{Sends}
+use Rattle.rules.proofs.Hold.{Inv}
 use Rattle.rules.proofs.Stream.{Carries}
 
 -- ---- the conditions that passed

@@ -24,7 +24,8 @@ use Rattle.rules.specs.declared.TransactionStep.the-variants.{Idle, Send
 use Rattle.rules.specs.declared.Sending.{Sending}
 use Rattle.rules.specs.declared.Sending.the-variants.{Metadata as MetadataPdu}
 use Rattle.rules.proofs.Tiles.{length-tiles, length-answers, Within, within-append, tiles-within, sizes, sizes-tiles}
-use Rattle.rules.proofs.Hold.{bytesOf, plan, At, Inv, planOf, owedBy, Small, Does, DoesFrom, Moves, call-moves}
+use Rattle.rules.proofs.Emits.{bytesOf}
+use Rattle.rules.proofs.Hold.{plan, At, Inv, planOf, owedBy, Small, Does, DoesFrom, Moves, call-moves}
 use Rattle.rules.proofs.Stream.{Carries, last-read, all-read, small-no-eof, last-eof, planned-file, planned-within}
 use Rattle.rules.proofs.Begun.{put-passed, carries, begun, begun-step}
 

@@ -60,33 +60,7 @@ use Rattle.rules.specs.declared.Done.{Done}
 use Rattle.rules.specs.declared.Cancelled.{Cancelled}
 use Rattle.rules.proofs.Tiles.{tiles-zero, tiles-step, tiles-one, Within, answers-append}
 use Rattle.rules.proofs.Pending.{Formed, AllOwe, pending-none, pending-first, those, pending-all, formed-all, owe-append, owe-those, answers-those, answers-within, Serves, serves}
-use Rattle.rules.proofs.Round.{length-encode}
-
--- ---- the bytes of a transfer's PDUs, and a state that sends them
-
-abbrev pub encoded : Head → Option Said → List ℕ
-encoded h none = []
-encoded h (some m) = encode h m
-
-abbrev pub bytesOf : Transfer → Sending → List ℕ
-bytesOf w d = encoded (w .head) (saidOf w d)
-
-pub record Sends (f : Fixed) (n : Names) (w : Transfer) : Type 0 where
-  pub head-is : f .head ≡ w .head
-  pub closure-is : pick (f .head .unacknowledged) (f .closure) false ≡ w .closure
-  pub type-is : f .checksum ≡ w .type
-  pub segment-is : f .segment ≡ w .segment
-  pub size-is : f .size ≡ length (w .file)
-  pub source-is : sourceName n ≡ w .source
-  pub destination-is : destinationName n ≡ w .destination
-
-pub same-bytes : (w : Transfer) (s : State) → Sends (s .fixed) (s .names) w → (d : Sending) → bytesFor s (w .file) d ≡ bytesOf w d
-unfolding closureBit
-same-bytes w s i NoPdu = refl
-same-bytes w s i MetadataPdu = cc
-same-bytes w s i (FileData o n) = cc
-same-bytes w s i (EofPdu e) = cc
-same-bytes w s i (AckFinished c) = cc
+use Rattle.rules.proofs.Emits.{encoded, bytesOf, Sends, encode-pos, Shows, step-shows}
 
 -- ---- the invariant
 
@@ -315,25 +289,6 @@ busy S Closing p q h = refl
 pub not-idle : (w : Transfer) (s : State) → Inv w s → isIdle (s .step) ≡ false
 not-idle w s i = busy (length (w .file)) (s .step) (s .file .progress) (pending (s .queue)) (i .here)
 
--- 30: what is lent has the file's length
-same-length : (w : Transfer) (s : State) (n : ℕ) → Inv w s → changed s n ≡ false → n ≡ length (w .file)
-unfolding changed
-same-length w s n i e = go (isIdle (s .step)) (eqb n (s .fixed .size)) (not-idle w s i) refl e
-  where
-    go : (a b : Bool) → a ≡ false → eqb n (s .fixed .size) ≡ b → pick a false (pick b false true) ≡ false → n ≡ length (w .file)
-    go true b x y e = absurd (true≢false x)
-    go false true x y e = eqb-true n (s .fixed .size) y ∙ i .sends .size-is
-    go false false x y e = absurd (true≢false e)
-
--- a PDU in front of the out buffer is taken from there
-pdu-in : (bs out : List ℕ) (n : ℕ) → length bs ≡ n → 0 < n → n ≤ length out → pduIn n (inFront bs out) ≡ some bs
-pdu-in bs out zero e p h = absurd (omega arith)
-pdu-in bs out (suc n) e p h = ap some (ap (λ (k : ℕ). take k (inFront bs out)) (sym e) ∙ taken bs out (rw e h))
-
-pub encode-pos : (h : Head) (m : Said) → 0 < length (encode h m)
-unfolding pduLength
-encode-pos h m = rw (length-encode h m) (omega arith)
-
 small-some : (w : Transfer) (d : Sending) → Small (w .segment) d → 0 < length (bytesOf w d)
 small-some w NoPdu h = absurd h
 small-some w MetadataPdu h = encode-pos (w .head) _
@@ -346,49 +301,22 @@ does-some {w} x y (Does.serves-one d t a b c e) = small-some w d c
 does-some {w} x y (Does.advances d t a b c e f) = small-some w d e
 does-some {w} x y (Does.closes t a b) = encode-pos (w .head) _
 
-module _ (w : Transfer) (s : State) (i : Inv w s) where
-  -- the lent file is the transfer's
-  sent-moves :
-      (expired : Bool) (out : List ℕ)
-      → let r = madeStep s (w .file) (dueOf s expired) (length out) in
-      Moves w s (unless (r .answer) (made (pduIn (r .length) (inFront (bytesDue s (w .file) expired) out)))) (r .state)
-  unfolding madeStep
-  sent-moves expired out = go (ltb (length out) (length bs)) refl
-    where
-      x : Sending
-      x = sendingOf s (w .file) (dueOf s expired)
+step-moves : (w : Transfer) (s : State) → Inv w s → (lent : List ℕ) (expired : Bool) (out : List ℕ) → LendsIn (w .file) (step lent expired out)
+    → Moves w s (seen (step lent expired out) s) (after (step lent expired out) s)
+step-moves w s i lent expired out l = go _ _ (step-shows w s (i .sends) (not-idle w s i) lent expired out l)
+  where
+    x : Sending
+    x = sendingOf s (w .file) (dueOf s expired)
 
-      bs : List ℕ
-      bs = bytesFor s (w .file) x
+    t : State
+    t = afterOf s (w .file) (dueOf s expired)
 
-      t : State
-      t = afterOf s (w .file) (dueOf s expired)
+    does : DoesFrom w s x t
+    does = due-does w s i expired
 
-      does : DoesFrom w s x t
-      does = due-does w s i expired
-
-      same : bs ≡ bytesOf w x
-      same = same-bytes w s (i .sends) x
-
-      go :
-          (b : Bool) → ltb (length out) (length bs) ≡ b
-          → let r = pick b (refusedStep s OutTooSmall) (record { answer = Accepted; length = length bs; events = eventsOf s (dueOf s expired); state = t }) in
-          Moves w s (unless (r .answer) (made (pduIn (r .length) (inFront bs out)))) (r .state)
-      go true e = refuses
-      go false e =
-          let some-bytes : 0 < length bs = rw same (does-some x t does) in
-          rw (pdu-in bs out (length bs) refl some-bytes (ltb-false (length out) (length bs) e), same) (emits x t does)
-
-  step-moves : (lent : List ℕ) (expired : Bool) (out : List ℕ) → LendsIn (w .file) (step lent expired out) → Moves w s (seen (step lent expired out) s) (after (step lent expired out) s)
-  unfolding stepSpec stepBytes
-  step-moves lent expired out l = go (changed s (length lent)) refl
-    where
-      go :
-          (b : Bool) → changed s (length lent) ≡ b
-          → let r = pick b (refusedStep s FileChanged) (madeStep s lent (dueOf s expired) (length out)) in
-          Moves w s (unless (r .answer) (made (pduIn (r .length) (pick b out (inFront (bytesDue s lent expired) out))))) (r .state)
-      go true e = refuses
-      go false e = rw (l (same-length w s (length lent) i e)) (sent-moves expired out)
+    go : (e : Event) (u : State) → Shows w s x t e u → Moves w s e u
+    go e u Shows.refuses = refuses
+    go e u (Shows.shows d f) = rw (f (does-some x t does)) (emits x t does)
 
 -- ---- deliveries
 

@@ -37,7 +37,8 @@ use Rattle.rules.specs.declared.Answer.the-variants.{Accepted, Refused}
 use Rattle.rules.proofs.Round.{length-encode}
 use Rattle.rules.proofs.Heard.{heard-read}
 use Rattle.rules.proofs.Tiles.{sizes, sizes-tiles}
-use Rattle.rules.proofs.Hold.{bytesOf, same-bytes, Inv, Small, Does, due-does}
+use Rattle.rules.proofs.Emits.{bytesOf, same-bytes}
+use Rattle.rules.proofs.Hold.{Inv, Small, Does, due-does}
 use Rattle.rules.proofs.Stream.{Carries, carried-sizes, planned-within}
 use Rattle.rules.proofs.Begun.{Passed, put-passed, head-fit, names, room, range, carries, begun, begun-step}
 use Rattle.rules.proofs.Demand.{Kept, kept, ending, first-cut}

@@ -22,7 +22,8 @@ use Rattle.rules.specs.declared.Sending.{Sending}
 use Rattle.rules.specs.declared.Sending.the-variants.{Nothing as NoPdu, Metadata as MetadataPdu, FileData, Eof as EofPdu, AckFinished}
 use Rattle.rules.proofs.Round.{round-trip, file-data, eof-seen}
 use Rattle.rules.proofs.Tiles.{Tiled, tiled-tiles, tiled-le, Within, tiles-within, sizes}
-use Rattle.rules.proofs.Hold.{bytesOf, Small}
+use Rattle.rules.proofs.Emits.{bytesOf}
+use Rattle.rules.proofs.Hold.{Small}
 
 -- what can be sent
 pub record Carries (w : Transfer) : Type 0 where
