@@ -37,7 +37,7 @@ use Rattle.rules.specs.declared.Answer.{Answer}
 use Rattle.rules.specs.declared.Answer.the-variants.{Accepted, Refused}
 use Rattle.rules.proofs.Sums.{sum-lt}
 use Rattle.rules.proofs.Round.{size-fits}
-use Rattle.rules.proofs.Pending.{Formed}
+use Rattle.rules.proofs.Pending.{orderly-empty}
 use Rattle.rules.proofs.Emits.{Sends}
 use Rattle.rules.proofs.Hold.{Inv}
 use Rattle.rules.proofs.Stream.{Carries}
@@ -247,8 +247,7 @@ module _ (h : State) (c : LocalEntityConfig) (q : PutRequest) (source destinatio
               };
           pos = range .0;
           unmarked = refl;
-          formed = record { size = refl; used = omega arith };
-          owe = tt;
+          orderly = orderly-empty (transfer .segment) (length file);
           here = (refl, refl);
         }
       )

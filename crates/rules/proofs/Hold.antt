@@ -58,8 +58,9 @@ use Rattle.rules.specs.declared.Answer.{Answer}
 use Rattle.rules.specs.declared.Answer.the-variants.{Accepted, Refused}
 use Rattle.rules.specs.declared.Done.{Done}
 use Rattle.rules.specs.declared.Cancelled.{Cancelled}
-use Rattle.rules.proofs.Tiles.{tiles-zero, tiles-step, tiles-one, Within, answers-append}
-use Rattle.rules.proofs.Pending.{Formed, AllOwe, pending-none, pending-first, those, pending-all, formed-all, owe-append, owe-those, answers-those, answers-within, Serves, serves}
+use Rattle.rules.proofs.Tiles.{tiles-zero, tiles-step, tiles-one, Within}
+use Rattle.rules.proofs.Pending.{pending-none, pending-first, Orderly, served-answers, orderly-served}
+use Rattle.rules.proofs.Delivers.{delivered-by, Naks, nak-adds}
 use Rattle.rules.proofs.Emits.{encoded, bytesOf, Sends, encode-pos, Shows, step-shows}
 
 -- ---- the invariant
@@ -88,8 +89,7 @@ pub record Inv (w : Transfer) (s : State) : Type 0 where
   pub sends : Sends (s .fixed) (s .names) w
   pub pos : 0 < w .segment
   pub unmarked : s .marks .cancelled ≡ false
-  pub formed : Formed (s .queue)
-  pub owe : AllOwe (pending (s .queue))
+  pub orderly : Orderly (w .segment) (length (w .file)) (s .queue)
   pub here : At (length (w .file)) (s .step) (s .file .progress) (pending (s .queue))
 
 abbrev pub planOf : Transfer → State → List Sending
@@ -159,11 +159,10 @@ moved s k f q = record { number = s .number; step = k; fixed = s .fixed; names =
 module _ (w : Transfer) (s : State) (i : Inv w s) where
   held :
       (k : TransactionStep) (f : FileParams) (q : Queue)
-      → Formed q
-      → AllOwe (pending q)
+      → Orderly (w .segment) (length (w .file)) q
       → At (length (w .file)) k (f .progress) (pending q)
       → Inv w (moved s k f q)
-  held k f q z o h = record { sends = i .sends; pos = i .pos; unmarked = i .unmarked; formed = z; owe = o; here = h }
+  held k f q o h = record { sends = i .sends; pos = i .pos; unmarked = i .unmarked; orderly = o; here = h }
 
   small-repair : (L : ℕ) (r : SegmentRequest) → Small L (repairOf L r)
   unfolding repairOf
@@ -176,11 +175,11 @@ module _ (w : Transfer) (s : State) (i : Inv w s) where
   repair-does : (n : ℕ) → n ≡ w .segment → 0 < s .queue .count → DoesFrom w s (repairOf n (oldest (s .queue))) (withQueue s (served n (s .queue)))
   repair-does n e c =
       let L = w .segment in
-      let z = serves L (i .pos) (s .queue) (i .formed) c (i .owe) in
-      rw e (serves-one (repairOf L (oldest (s .queue))) (withQueue s (served L (s .queue))) (z .answers-are) refl (small-repair L (oldest (s .queue)))
-      (held (s .step) (s .file) (served L (s .queue)) (z .formed) (z .owe)
-      (at-rest (length (w .file)) (s .step) (s .file .progress) (oldest (s .queue)) (pending (pop (s .queue))) (pending (served L (s .queue)))
-      (rw (pending-first (s .queue) (i .formed) c) at (i .here)))))
+      let S = length (w .file) in
+      let q = s .queue in
+      rw e (serves-one (repairOf L (oldest q)) (withQueue s (served L q)) (served-answers L S (i .pos) q (i .orderly) c) refl (small-repair L (oldest q))
+      (held (s .step) (s .file) (served L q) (orderly-served L S (i .pos) q (i .orderly) c)
+      (at-rest S (s .step) (s .file .progress) (oldest q) (pending (pop q)) (pending (served L q)) (rw (pending-first q (i .orderly .formed) c) at (i .here)))))
 
   module _ (none-left : pending (s .queue) ≡ []) where
     -- another step and progress, nothing pending
@@ -188,7 +187,7 @@ module _ (w : Transfer) (s : State) (i : Inv w s) where
         (k : TransactionStep) (f : FileParams)
         → At (length (w .file)) k (f .progress) (pending (s .queue))
         → Inv w (moved s k f (s .queue))
-    gone-on k f h = held k f (s .queue) (i .formed) (i .owe) h
+    gone-on k f h = held k f (s .queue) (i .orderly) h
 
     metadata-does : s .file .progress ≡ 0 → Does w (pending (s .queue)) SendingMetadata (s .file .progress) MetadataPdu (afterMetadata s)
     unfolding afterMetadata
@@ -337,87 +336,44 @@ module _ (w : Transfer) (s : State) (i : Inv w s) where
       → ((l : List SegmentRequest) → At (length (w .file)) (s .step) (s .file .progress) l)
       → s .file .progress ≤ length (w .file)
       → Takes w s rs (nakOf s rs)
-  unfolding nakOf
-  nak-takes rs h l = go (takesNak s) (anyInvalid (s .file .progress) rs) (ltb (free (s .queue)) (owing rs)) refl refl
+  nak-takes rs h l = go (nakOf s rs) (nak-adds (w .segment) (length (w .file)) s (i .pos) (i .orderly) l rs)
     where
-      L : ℕ
-      L = w .segment
-
-      q : Queue
-      q = pushAll (s .queue) rs
-
-      go :
-          (a b c : Bool) → anyInvalid (s .file .progress) rs ≡ b → ltb (free (s .queue)) (owing rs) ≡ c
-          → Takes w s rs
-          (pick a (pick b (refused s InvalidNakPdu) (pick c (refused s RetransmitFull) (accepted (withQueue s (pushAll (s .queue) rs))))) (refused s UnexpectedPdu))
-      go false b c x y = turns UnexpectedPdu
-      go true true c x y = turns InvalidNakPdu
-      go true false true x y = turns RetransmitFull
-      go true false false x y =
-          let e = pending-all (s .queue) rs (i .formed) y in
-          adds (withQueue s q)
-          (rw (e, answers-append L (pending (s .queue)) (those rs), answers-those L (i .pos) rs))
-          refl
-          (answers-within L (i .pos) (length (w .file)) (s .file .progress) rs l x)
-          (held w s i (s .step) (s .file) q (formed-all (s .queue) rs (i .formed) y)
-          (rw e (owe-append (pending (s .queue)) (those rs) (i .owe) (owe-those rs))) (h (pending q)))
+      go : (r : Done) → Naks (w .segment) (length (w .file)) s rs r → Takes w s rs r
+      go r (Naks.turns n) = turns n
+      go r (Naks.adds q c a v o) = adds (withQueue s q) a refl v (held w s i (s .step) (s .file) q o (h (pending q)))
 
   no-effect : Takes w s [] (accepted s)
   unfolding answers
   no-effect = adds s (sym (append-nil (owedBy w s))) refl tt i
 
-  module _ (bytes : List ℕ) (f : Frame) where
-    -- by the table, step by step
-    by-table :
-        (k : TransactionStep) (m : Meaning) → s .step ≡ k → At (length (w .file)) k (s .file .progress) (pending (s .queue))
-        → Takes w s (asked bytes f m) (byVerdict s bytes f m (verdictOf k m))
-    unfolding verdictOf
-    by-table Idle m e h = absurd h
-    by-table SendingMetadata (Finished p) e h = turns UnexpectedPdu
-    by-table SendingMetadata AckOfEof e h = turns UnexpectedPdu
-    by-table SendingMetadata (Nak n) e h = turns UnexpectedPdu
-    by-table SendingMetadata (KeepAlive p) e h = no-effect
-    by-table SendingFileData (Finished p) e h = turns UnexpectedPdu
-    by-table SendingFileData AckOfEof e h = turns UnexpectedPdu
-    by-table SendingFileData (Nak n) e h = nak-takes (requestsIn bytes f n) (λ l. rw e h) (omega arith)
-    by-table SendingFileData (KeepAlive p) e h = no-effect
-    by-table SendingEof (Finished p) e h = turns UnexpectedPdu
-    by-table SendingEof AckOfEof e h = turns UnexpectedPdu
-    by-table SendingEof (Nak n) e h = nak-takes (requestsIn bytes f n) (λ l. rw e h) (omega arith)
-    by-table SendingEof (KeepAlive p) e h = no-effect
-    by-table WaitingForEofAck m e h = absurd h
-    by-table WaitingForFinished m e h = absurd h
-    by-table Closing m e h = absurd h
-
-    heard-takes : (m : Meaning) → Takes w s (asked bytes f m) (heard s bytes f m)
-    unfolding heard
-    heard-takes m = go (isIdle (s .step)) (sameTransaction (s .fixed .head) (f .head)) (by-table (s .step) m refl (i .here))
-      where
-        go :
-            (a b : Bool)
-            → Takes w s (asked bytes f m) (byVerdict s bytes f m (verdictOf (s .step) m))
-            → Takes w s (asked bytes f m)
-            (pick a (byVerdict s bytes f m (verdictOf (s .step) m)) (pick b (byVerdict s bytes f m (verdictOf (s .step) m)) (refused s OtherTransaction)))
-        go true b k = k
-        go false true k = k
-        go false false k = turns OtherTransaction
-
-    body-takes : (b : Body) → Takes w s (requestsOfBody bytes f b) (byBody s bytes f b)
-    body-takes NoBody = turns Malformed
-    body-takes CantProcess = turns CantProcessPacketType
-    body-takes (Means m) = heard-takes m
-
-  frame-takes : (bytes : List ℕ) (f : Framed) → Takes w s (requestsOfFrame bytes f) (byFrame s bytes f)
-  frame-takes bytes NoFrame = turns Malformed
-  frame-takes bytes (Whole f) = body-takes bytes f (bodyOf f (part bytes (f .start) (f .end - f .start)))
-
-  took-moves : (bytes : List ℕ) (r : Done) → Takes w s (requests bytes) r → Moves w s (unless (r .answer) (took bytes)) (r .state)
-  took-moves bytes r (Takes.turns n) = refuses
-  took-moves bytes r (Takes.adds t a b c j) = takes bytes t a b c j
+  -- by the table, step by step
+  by-table :
+      (bytes : List ℕ) (f : Frame) (k : TransactionStep) (m : Meaning) → s .step ≡ k → At (length (w .file)) k (s .file .progress) (pending (s .queue))
+      → Takes w s (asked bytes f m) (byVerdict s bytes f m (verdictOf k m))
+  unfolding verdictOf
+  by-table bytes f Idle m e h = absurd h
+  by-table bytes f SendingMetadata (Finished p) e h = turns UnexpectedPdu
+  by-table bytes f SendingMetadata AckOfEof e h = turns UnexpectedPdu
+  by-table bytes f SendingMetadata (Nak n) e h = turns UnexpectedPdu
+  by-table bytes f SendingMetadata (KeepAlive p) e h = no-effect
+  by-table bytes f SendingFileData (Finished p) e h = turns UnexpectedPdu
+  by-table bytes f SendingFileData AckOfEof e h = turns UnexpectedPdu
+  by-table bytes f SendingFileData (Nak n) e h = nak-takes (requestsIn bytes f n) (λ l. rw e h) (omega arith)
+  by-table bytes f SendingFileData (KeepAlive p) e h = no-effect
+  by-table bytes f SendingEof (Finished p) e h = turns UnexpectedPdu
+  by-table bytes f SendingEof AckOfEof e h = turns UnexpectedPdu
+  by-table bytes f SendingEof (Nak n) e h = nak-takes (requestsIn bytes f n) (λ l. rw e h) (omega arith)
+  by-table bytes f SendingEof (KeepAlive p) e h = no-effect
+  by-table bytes f WaitingForEofAck m e h = absurd h
+  by-table bytes f WaitingForFinished m e h = absurd h
+  by-table bytes f Closing m e h = absurd h
 
   deliver-moves : (bytes : List ℕ) → Moves w s (seen (deliver bytes) s) (after (deliver bytes) s)
-  unfolding deliverSpec requests
-  deliver-moves bytes = took-moves bytes (deliverSpec s bytes) (frame-takes bytes (framedIn bytes))
+  deliver-moves bytes = go (deliverSpec s bytes) (delivered-by s (Takes w s) (λ rs r. turns r) (λ x f m. by-table x f (s .step) m refl (i .here)) bytes)
+    where
+      go : (r : Done) → Takes w s (requests bytes) r → Moves w s (unless (r .answer) (took bytes)) (r .state)
+      go r (Takes.turns n) = refuses
+      go r (Takes.adds t a b c j) = takes bytes t a b c j
 
   -- ---- all calls
 

@@ -12,7 +12,7 @@ use lib.ListN.{length, getD, take, drop, set, length-append, length-drop, length
 use lib.Seq.{take-append-le, take-suc-set}
 use borrow.Author.Tests.{eqb-true, leb-true, leb-false, ltb-true, ltb-false, lt-ltb, lt-leb, le-leb, ne-eqb}
 use Rattle.basis.specs.Pick.{pick}
-use Rattle.rules.specs.States.{blank}
+use Rattle.rules.specs.States.{blank, emptyQueue}
 use Rattle.rules.specs.Queues.{pending, isMetadata, owes, invalid, anyInvalid, owing, free, push, pushOwed, pushAll, oldest, pop, piece, served}
 use Rattle.rules.specs.Step.{repairOf}
 use Rattle.rules.specs.Tiles.{tiles, answer, answers}
@@ -20,7 +20,7 @@ use Rattle.rules.specs.declared.SegmentRequest.{SegmentRequest}
 use Rattle.rules.specs.declared.Queue.{Queue}
 use Rattle.rules.specs.declared.Sending.{Sending}
 use Rattle.rules.specs.declared.Sending.the-variants.{Metadata as MetadataPdu, FileData}
-use Rattle.rules.proofs.Tiles.{tiles-zero, tiles-step, tiles-one, Within, within-append, tiles-within}
+use Rattle.rules.proofs.Tiles.{tiles-zero, tiles-step, tiles-one, Within, within-append, within-rest, tiles-within, answers-append}
 
 -- 64 places, and no more of them used
 pub record Formed (q : Queue) : Type 0 where
@@ -90,7 +90,7 @@ module _ (q : Queue) (r : SegmentRequest) (f : Formed q) (p : q .count < 64) whe
   count-push = rw pushed
 
 -- those that owe, in their order
-unfoldable pub those : List SegmentRequest → List SegmentRequest
+unfoldable those : List SegmentRequest → List SegmentRequest
 those [] = []
 those (r ∷ rs) = pick (owes r) (r ∷ those rs) (those rs)
 
@@ -119,19 +119,19 @@ room-left : (q : Queue) (n : ℕ) → Formed q → ltb (free q) n ≡ false → 
 unfolding free
 room-left q n f e = let l = ltb-false (64 - q .count) n e in let y = f .used in omega arith
 
-pub pending-all : (q : Queue) (rs : List SegmentRequest) → Formed q → ltb (free q) (owing rs) ≡ false → pending (pushAll q rs) ≡ pending q ++ those rs
+pending-all : (q : Queue) (rs : List SegmentRequest) → Formed q → ltb (free q) (owing rs) ≡ false → pending (pushAll q rs) ≡ pending q ++ those rs
 pending-all q rs f e = all-queued q rs f (room-left q (owing rs) f e) .list-is
 
-pub formed-all : (q : Queue) (rs : List SegmentRequest) → Formed q → ltb (free q) (owing rs) ≡ false → Formed (pushAll q rs)
+formed-all : (q : Queue) (rs : List SegmentRequest) → Formed q → ltb (free q) (owing rs) ≡ false → Formed (pushAll q rs)
 formed-all q rs f e = all-queued q rs f (room-left q (owing rs) f e) .formed
 
 -- ---- what they owe
 
-pub owe-append : (q k : List SegmentRequest) → AllOwe q → AllOwe k → AllOwe (q ++ k)
+owe-append : (q k : List SegmentRequest) → AllOwe q → AllOwe k → AllOwe (q ++ k)
 owe-append [] k h l = l
 owe-append (r ∷ q) k h l = (h .0, owe-append q k (h .1) l)
 
-pub owe-those : (rs : List SegmentRequest) → AllOwe (those rs)
+owe-those : (rs : List SegmentRequest) → AllOwe (those rs)
 unfolding those
 owe-those [] = tt
 owe-those (r ∷ rs) = go (owe-those rs) (owes r) refl
@@ -153,7 +153,7 @@ module _ (L : ℕ) (pos : 0 < L) where
           let z : r .end - r .start ≡ 0 = omega arith in
           rw (z, tiles-zero L (r .start) pos)
 
-  pub answers-those : (rs : List SegmentRequest) → answers L (those rs) ≡ answers L rs
+  answers-those : (rs : List SegmentRequest) → answers L (those rs) ≡ answers L rs
   unfolding answers those
   answers-those [] = refl
   answers-those (r ∷ rs) = go (answers-those rs) (owes r) refl
@@ -246,12 +246,12 @@ module _ (L : ℕ) (pos : 0 < L) where
       rw (later-data r, lt-ltb (r .start + L) (r .end) (omega arith))
 
   -- one PDU of the oldest request leaves, the others stay
-  pub record Serves (q k : Queue) : Type 0 where
-    pub answers-are : answers L (pending q) ≡ repairOf L (oldest q) ∷ answers L (pending k)
-    pub owe : AllOwe (pending k)
-    pub formed : Formed k
+  record Serves (q k : Queue) : Type 0 where
+    answers-are : answers L (pending q) ≡ repairOf L (oldest q) ∷ answers L (pending k)
+    owe : AllOwe (pending k)
+    formed : Formed k
 
-  pub serves : (q : Queue) → Formed q → 0 < q .count → AllOwe (pending q) → Serves q (served L q)
+  serves : (q : Queue) → Formed q → 0 < q .count → AllOwe (pending q) → Serves q (served L q)
   unfolding served answers
   serves q f p o = go (leb (oldest q .end - oldest q .start) L) refl (rw (pending-first q f p) at o)
     where
@@ -269,4 +269,38 @@ module _ (L : ℕ) (pos : 0 < L) where
             answers-are = rw (pending-first q f p, pending-changed q f p (later L (oldest q)), more-pieces (oldest q) e);
             owe = rw (pending-changed q f p (later L (oldest q))) (later-owes (oldest q) e, o .1);
             formed = formed-changed q f p (later L (oldest q));
+          }
+
+-- ---- a queue in order: each pending request owes something, which lies in the first S bytes
+
+pub record Orderly (L S : ℕ) (q : Queue) : Type 0 where
+  pub formed : Formed q
+  pub owe : AllOwe (pending q)
+  pub within : Within L S (answers L (pending q))
+
+module _ (L S : ℕ) where
+  pub orderly-empty : Orderly L S emptyQueue
+  unfolding pending answers
+  orderly-empty = record { formed = record { size = refl; used = omega arith }; owe = tt; within = tt }
+
+  module _ (pos : 0 < L) (q : Queue) (o : Orderly L S q) where
+    pub served-answers : 0 < q .count → answers L (pending q) ≡ repairOf L (oldest q) ∷ answers L (pending (served L q))
+    served-answers p = serves L pos q (o .formed) p (o .owe) .answers-are
+
+    pub orderly-served : 0 < q .count → Orderly L S (served L q)
+    orderly-served p =
+        let z = serves L pos q (o .formed) p (o .owe) in
+        record { formed = z .formed; owe = z .owe; within = within-rest L S (repairOf L (oldest q)) (answers L (pending (served L q))) (rw (z .answers-are) at (o .within)) }
+
+    module _ (rs : List SegmentRequest) (n : ℕ) (l : n ≤ S) (valid : anyInvalid n rs ≡ false) (room : ltb (free q) (owing rs) ≡ false) where
+      pub all-answers : answers L (pending (pushAll q rs)) ≡ answers L (pending q) ++ answers L rs
+      all-answers = rw (pending-all q rs (o .formed) room, answers-append L (pending q) (those rs), answers-those L pos rs)
+
+      pub orderly-all : Orderly L S (pushAll q rs)
+      orderly-all =
+          let e = pending-all q rs (o .formed) room in
+          record {
+            formed = formed-all q rs (o .formed) room;
+            owe = rw e (owe-append (pending q) (those rs) (o .owe) (owe-those rs));
+            within = rw all-answers (within-append L S (answers L (pending q)) (answers L rs) (o .within) (answers-within L pos S n rs l valid));
           }

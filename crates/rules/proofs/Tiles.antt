@@ -138,6 +138,13 @@ within-append L S (FileData o n ∷ ps) qs h k = (h .0, h .1, within-append L S 
 within-append L S (EofPdu e ∷ ps) qs h k = h
 within-append L S (AckFinished c ∷ ps) qs h k = h
 
+pub within-rest : (L S : ℕ) (d : Sending) (ps : List Sending) → Within L S (d ∷ ps) → Within L S ps
+within-rest L S NoPdu ps h = absurd h
+within-rest L S MetadataPdu ps h = h
+within-rest L S (FileData o n) ps h = h .2
+within-rest L S (EofPdu e) ps h = absurd h
+within-rest L S (AckFinished c) ps h = absurd h
+
 tiled-within : (L S a b : ℕ) (ps : List Sending) → Tiled L a b ps → b ≤ S → Within L S ps
 tiled-within L S a b [] h l = tt
 tiled-within L S a b (NoPdu ∷ ps) h l = absurd h

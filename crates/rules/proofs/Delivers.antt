@@ -1,0 +1,92 @@
+-- A delivery's outcome, once for all uses: by the frame, the body and the table, and what a NAK adds to the queue.
+-- Assumes nothing.
+use mathlib.Core.Path.{_≡_, refl}
+use mathlib.Core.Bool.{Bool, true, false, false≢true}
+use mathlib.Core.List.{List, [], _∷_, _++_}
+use Prim.Native.Nat.{ℕ, _-_, _≤_, _<_}
+use lib.Dec.{ltb}
+use Rattle.basis.specs.Pick.{pick}
+use Rattle.basis.specs.Bytes.{part}
+use Rattle.rules.specs.Reading.{framedIn, bodyOf}
+use Rattle.rules.specs.States.{isIdle, withQueue}
+use Rattle.rules.specs.Queues.{pending, anyInvalid, owing, free, pushAll}
+use Rattle.rules.specs.Deliver.{refused, accepted, sameTransaction, takesNak, nakOf, verdictOf, asked, byVerdict, heard, byBody, byFrame, deliverSpec}
+use Rattle.rules.specs.Tiles.{answers}
+use Rattle.rules.specs.Runs.{requestsOfBody, requestsOfFrame, requests}
+use Rattle.rules.specs.declared.SegmentRequest.{SegmentRequest}
+use Rattle.rules.specs.declared.Frame.{Frame}
+use Rattle.rules.specs.declared.Framed.{Framed}
+use Rattle.rules.specs.declared.Framed.the-variants.{Malformed as NoFrame, Whole}
+use Rattle.rules.specs.declared.Body.{Body}
+use Rattle.rules.specs.declared.Body.the-variants.{Malformed as NoBody, CantProcess, Means}
+use Rattle.rules.specs.declared.Meaning.{Meaning}
+use Rattle.rules.specs.declared.Queue.{Queue}
+use Rattle.rules.specs.declared.State.{State}
+use Rattle.rules.specs.declared.Refusal.{Refusal}
+use Rattle.rules.specs.declared.Refusal.the-variants.{UnexpectedPdu, InvalidNakPdu, RetransmitFull, OtherTransaction, Malformed, CantProcessPacketType}
+use Rattle.rules.specs.declared.Done.{Done}
+use Rattle.rules.proofs.Tiles.{Within}
+use Rattle.rules.proofs.Pending.{Orderly, answers-within, all-answers, orderly-all}
+
+-- what holds of every refusal and of what the table says, holds of the delivery with its requests
+module _ (s : State) (P : List SegmentRequest → Done → Type 0) (no : (rs : List SegmentRequest) (r : Refusal) → P rs (refused s r))
+    (yes : (bytes : List ℕ) (f : Frame) (m : Meaning) → P (asked bytes f m) (byVerdict s bytes f m (verdictOf (s .step) m))) where
+  heard-by : (bytes : List ℕ) (f : Frame) (m : Meaning) → P (asked bytes f m) (heard s bytes f m)
+  unfolding heard
+  heard-by bytes f m = go (isIdle (s .step)) (sameTransaction (s .fixed .head) (f .head))
+    where
+      v : Done
+      v = byVerdict s bytes f m (verdictOf (s .step) m)
+
+      go : (a b : Bool) → P (asked bytes f m) (pick a v (pick b v (refused s OtherTransaction)))
+      go true b = yes bytes f m
+      go false true = yes bytes f m
+      go false false = no (asked bytes f m) OtherTransaction
+
+  body-by : (bytes : List ℕ) (f : Frame) (b : Body) → P (requestsOfBody bytes f b) (byBody s bytes f b)
+  body-by bytes f NoBody = no [] Malformed
+  body-by bytes f CantProcess = no [] CantProcessPacketType
+  body-by bytes f (Means m) = heard-by bytes f m
+
+  frame-by : (bytes : List ℕ) (f : Framed) → P (requestsOfFrame bytes f) (byFrame s bytes f)
+  frame-by bytes NoFrame = no [] Malformed
+  frame-by bytes (Whole f) = body-by bytes f (bodyOf f (part bytes (f .start) (f .end - f .start)))
+
+  pub delivered-by : (bytes : List ℕ) → P (requests bytes) (deliverSpec s bytes)
+  unfolding deliverSpec requests
+  delivered-by bytes = frame-by bytes (framedIn bytes)
+
+-- a NAK with the requests rs is refused, or adds what they owe behind what is pending
+pub data Naks (L S : ℕ) (s : State) (rs : List SegmentRequest) : Done → Type 0 where
+  turns : (r : Refusal) → Naks L S s rs (refused s r)
+  adds :
+      (q : Queue)
+      → s .marks .cancelled ≡ false
+      → answers L (pending q) ≡ answers L (pending (s .queue)) ++ answers L rs
+      → Within L S (answers L rs)
+      → Orderly L S q
+      → Naks L S s rs (accepted (withQueue s q))
+
+open-marks : (s : State) → takesNak s ≡ true → s .marks .cancelled ≡ false
+unfolding takesNak
+open-marks s e = go (s .fixed .head .unacknowledged) (s .marks .cancelled) e
+  where
+    go : (a c : Bool) → pick a false (pick c false true) ≡ true → c ≡ false
+    go true c e = absurd (false≢true e)
+    go false true e = absurd (false≢true e)
+    go false false e = refl
+
+pub nak-adds : (L S : ℕ) (s : State) → 0 < L → Orderly L S (s .queue) → s .file .progress ≤ S → (rs : List SegmentRequest) → Naks L S s rs (nakOf s rs)
+unfolding nakOf
+nak-adds L S s pos o l rs = go (takesNak s) (anyInvalid (s .file .progress) rs) (ltb (free (s .queue)) (owing rs)) refl refl refl
+  where
+    go :
+        (a b c : Bool) → takesNak s ≡ a → anyInvalid (s .file .progress) rs ≡ b → ltb (free (s .queue)) (owing rs) ≡ c
+        → Naks L S s rs
+        (pick a (pick b (refused s InvalidNakPdu) (pick c (refused s RetransmitFull) (accepted (withQueue s (pushAll (s .queue) rs))))) (refused s UnexpectedPdu))
+    go false b c x y z = turns UnexpectedPdu
+    go true true c x y z = turns InvalidNakPdu
+    go true false true x y z = turns RetransmitFull
+    go true false false x y z =
+        adds (pushAll (s .queue) rs) (open-marks s x) (all-answers L S pos (s .queue) o rs (s .file .progress) l y z)
+        (answers-within L pos S (s .file .progress) rs l y) (orderly-all L S pos (s .queue) o rs (s .file .progress) l y z)
