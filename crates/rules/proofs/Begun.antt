@@ -38,15 +38,12 @@ use Rattle.rules.specs.declared.Answer.the-variants.{Accepted, Refused}
 use Rattle.rules.proofs.Sums.{sum-lt}
 use Rattle.rules.proofs.Round.{size-fits}
 use Rattle.rules.proofs.Pending.{orderly-empty}
+use Rattle.rules.proofs.Outcomes.{passed}
 use Rattle.rules.proofs.Emits.{Sends}
 use Rattle.rules.proofs.Hold.{Inv}
 use Rattle.rules.proofs.Stream.{Carries}
 
 -- ---- the conditions that passed
-
-passed : (b : Bool) (x : Answer) (r : Refusal) → pick b x (Refused r) ≡ Accepted → (b ≡ true) × (x ≡ Accepted)
-passed true x r e = (refl, e)
-passed false x r e = absurd (let z : _≡_ {A = ℕ} 0 1 = cc in omega arith)
 
 passed-not : (b : Bool) (x : Answer) (r : Refusal) → pick b (Refused r) x ≡ Accepted → b ≡ false
 passed-not true x r e = absurd (let z : _≡_ {A = ℕ} 0 1 = cc in omega arith)

@@ -25,7 +25,7 @@ use Rattle.rules.specs.declared.Sending.{Sending}
 use Rattle.rules.specs.declared.Sending.the-variants.{Metadata as MetadataPdu}
 use Rattle.rules.proofs.Tiles.{length-tiles, length-answers, Within, within-append, tiles-within, sizes, sizes-tiles}
 use Rattle.rules.proofs.Emits.{bytesOf}
-use Rattle.rules.proofs.Hold.{plan, At, Inv, planOf, owedBy, Small, Does, DoesFrom, Moves, call-moves}
+use Rattle.rules.proofs.Hold.{plan, At, Inv, planOf, owedBy, none-owed, Small, Does, DoesFrom, Moves, call-moves}
 use Rattle.rules.proofs.Stream.{Carries, last-read, all-read, small-no-eof, last-eof, planned-file, planned-within}
 use Rattle.rules.proofs.Begun.{put-passed, carries, begun, begun-step}
 
@@ -42,10 +42,6 @@ pub record Kept (w : Transfer) (s : State) (es : List Event) (t : State) : Type 
   pub counted :
       steps es + length (owedBy w t) + length (planOf w t)
       ≡ length (owedBy w s) + length (planOf w s) + R (w .segment) es
-
-none-owed : (w : Transfer) (s : State) → pending (s .queue) ≡ [] → owedBy w s ≡ []
-unfolding answers
-none-owed w s e = rw e
 
 module _ (w : Transfer) (g : Fit (w .head)) (cs : List Call) (ih : (t : State) → Inv w t → BeforeEof (trace cs t) → Kept w t (trace cs t) (behind cs t)) where
   on-does :

@@ -60,7 +60,7 @@ use Rattle.rules.specs.declared.Done.{Done}
 use Rattle.rules.specs.declared.Cancelled.{Cancelled}
 use Rattle.rules.proofs.Tiles.{tiles-zero, tiles-step, tiles-one, Within}
 use Rattle.rules.proofs.Pending.{pending-none, pending-first, Orderly, served-answers, orderly-served}
-use Rattle.rules.proofs.Delivers.{delivered-by, Naks, nak-adds}
+use Rattle.rules.proofs.Outcomes.{put-by, cancel-by, delivered-by, Naks, nak-adds}
 use Rattle.rules.proofs.Emits.{encoded, bytesOf, Sends, encode-pos, Shows, step-shows}
 
 -- ---- the invariant
@@ -98,6 +98,10 @@ planOf w s = plan w (s .step) (s .file .progress)
 abbrev pub owedBy : Transfer → State → List Sending
 owedBy w s = answers (w .segment) (pending (s .queue))
 
+pub none-owed : (w : Transfer) (s : State) → pending (s .queue) ≡ [] → owedBy w s ≡ []
+unfolding answers
+none-owed w s e = rw e
+
 -- the metadata PDU, or data of at most L bytes
 abbrev pub Small : ℕ → Sending → Type 0
 Small L NoPdu = ⊥
@@ -105,6 +109,21 @@ Small L MetadataPdu = Unit {0}
 Small L (FileData o n) = n ≤ L
 Small L (EofPdu e) = ⊥
 Small L (AckFinished c) = ⊥
+
+pub small-repair : (L : ℕ) (r : SegmentRequest) → Small L (repairOf L r)
+unfolding repairOf
+small-repair L r = go (isMetadata r)
+  where
+    go : (m : Bool) → Small L (pick m MetadataPdu (FileData (r .start) (piece L r)))
+    go true = tt
+    go false = omega arith
+
+pub small-some : (w : Transfer) (d : Sending) → Small (w .segment) d → 0 < length (bytesOf w d)
+small-some w NoPdu h = absurd h
+small-some w MetadataPdu h = encode-pos (w .head) _
+small-some w (FileData o n) h = encode-pos (w .head) _
+small-some w (EofPdu e) h = absurd h
+small-some w (AckFinished c) h = absurd h
 
 -- what a step emits and comes to, from a state with the pending list q, the step k and the progress p
 pub data Does (w : Transfer) (q : List SegmentRequest) (k : TransactionStep) (p : ℕ) : Sending → State → Type 0 where
@@ -163,14 +182,6 @@ module _ (w : Transfer) (s : State) (i : Inv w s) where
       → At (length (w .file)) k (f .progress) (pending q)
       → Inv w (moved s k f q)
   held k f q o h = record { sends = i .sends; pos = i .pos; unmarked = i .unmarked; orderly = o; here = h }
-
-  small-repair : (L : ℕ) (r : SegmentRequest) → Small L (repairOf L r)
-  unfolding repairOf
-  small-repair L r = go (isMetadata r)
-    where
-      go : (m : Bool) → Small L (pick m MetadataPdu (FileData (r .start) (piece L r)))
-      go true = tt
-      go false = omega arith
 
   repair-does : (n : ℕ) → n ≡ w .segment → 0 < s .queue .count → DoesFrom w s (repairOf n (oldest (s .queue))) (withQueue s (served n (s .queue)))
   repair-does n e c =
@@ -288,13 +299,6 @@ busy S Closing p q h = refl
 pub not-idle : (w : Transfer) (s : State) → Inv w s → isIdle (s .step) ≡ false
 not-idle w s i = busy (length (w .file)) (s .step) (s .file .progress) (pending (s .queue)) (i .here)
 
-small-some : (w : Transfer) (d : Sending) → Small (w .segment) d → 0 < length (bytesOf w d)
-small-some w NoPdu h = absurd h
-small-some w MetadataPdu h = encode-pos (w .head) _
-small-some w (FileData o n) h = encode-pos (w .head) _
-small-some w (EofPdu e) h = absurd h
-small-some w (AckFinished c) h = absurd h
-
 does-some : {w : Transfer} {q : List SegmentRequest} {k : TransactionStep} {p : ℕ} (d : Sending) (t : State) → Does w q k p d t → 0 < length (bytesOf w d)
 does-some {w} x y (Does.serves-one d t a b c e) = small-some w d c
 does-some {w} x y (Does.advances d t a b c e f) = small-some w d e
@@ -378,31 +382,9 @@ module _ (w : Transfer) (s : State) (i : Inv w s) where
   -- ---- all calls
 
   -- a handler that is busy refuses every put
-  put-busy : (c : LocalEntityConfig) (q : PutRequest) (a b : List ℕ) (S : ℕ) → putAnswer s c q a b S ≡ Refused AlreadyBusy
-  unfolding putAnswer
-  put-busy c q a b S = rw (not-idle w s i)
-
-  put-moves : (c : LocalEntityConfig) (q : PutRequest) (a b : List ℕ) (S : ℕ) → Moves w s (seen (put c q a b S) s) (after (put c q a b S) s)
-  unfolding putSpec
-  put-moves c q a b S = go (putAnswer s c q a b S) (put-busy c q a b S)
-    where
-      go : (x : Answer) → x ≡ Refused AlreadyBusy → let r = byAnswer s (putState s c q a b S) x in Moves w s (unless (r .answer) began) (r .state)
-      go Accepted e = absurd (let z : _≡_ {A = ℕ} 0 1 = cc in omega arith)
-      go (Refused n) e = refuses
-
-  cancel-moves : (source : EntityId) (number : TransactionSeqNum) → Moves w s (seen (cancel source number) s) (after (cancel source number) s)
-  unfolding cancelSpec
-  cancel-moves source number = go (mayCancel s source number)
-    where
-      go :
-          (b : Bool)
-          → let r = pick {A = Cancelled} b (record { yes = true; state = userCancelled s }) (record { yes = false; state = s }) in Moves w s (pick (r .yes) ended turned) (r .state)
-      go true = ends (userCancelled s)
-      go false = refuses
-
   pub call-moves : (c : Call) → LendsIn (w .file) c → Moves w s (seen c s) (after c s)
-  call-moves (put c q a b S) l = put-moves c q a b S
+  call-moves (put c q a b S) l = put-by s (Moves w s) refuses (λ t e. absurd (true≢false (sym e ∙ not-idle w s i))) c q a b S
   call-moves (deliver bytes) l = deliver-moves bytes
   call-moves (step lent expired out) l = step-moves w s i lent expired out l
-  call-moves (cancel source number) l = cancel-moves source number
+  call-moves (cancel source number) l = cancel-by s (Moves w s) refuses (ends _) source number
   call-moves reset l = ends _

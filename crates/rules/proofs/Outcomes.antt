@@ -1,18 +1,25 @@
--- A delivery's outcome, once for all uses: by the frame, the body and the table, and what a NAK adds to the queue.
+-- What a put, a delivery and a cancel come to, once for all uses: what holds of each possible outcome holds of the call.
 -- Assumes nothing.
 use mathlib.Core.Path.{_≡_, refl}
 use mathlib.Core.Bool.{Bool, true, false, false≢true}
 use mathlib.Core.List.{List, [], _∷_, _++_}
 use Prim.Native.Nat.{ℕ, _-_, _≤_, _<_}
+use native.Mathlib.Omega.{arith}
 use lib.Dec.{ltb}
 use Rattle.basis.specs.Pick.{pick}
 use Rattle.basis.specs.Bytes.{part}
 use Rattle.rules.specs.Reading.{framedIn, bodyOf}
 use Rattle.rules.specs.States.{isIdle, withQueue}
 use Rattle.rules.specs.Queues.{pending, anyInvalid, owing, free, pushAll}
+use Rattle.rules.specs.Put.{putAnswer, putState, byAnswer, putSpec}
 use Rattle.rules.specs.Deliver.{refused, accepted, sameTransaction, takesNak, nakOf, verdictOf, asked, byVerdict, heard, byBody, byFrame, deliverSpec}
+use Rattle.rules.specs.Cancel.{mayCancel, userCancelled, cancelSpec}
 use Rattle.rules.specs.Tiles.{answers}
-use Rattle.rules.specs.Runs.{requestsOfBody, requestsOfFrame, requests}
+use Rattle.rules.specs.Runs.{put, cancel, Event, turned, began, ended, after, unless, seen, requestsOfBody, requestsOfFrame, requests}
+use Rattle.rules.specs.declared.EntityId.{EntityId}
+use Rattle.rules.specs.declared.TransactionSeqNum.{TransactionSeqNum}
+use Rattle.rules.specs.declared.LocalEntityConfig.{LocalEntityConfig}
+use Rattle.rules.specs.declared.PutRequest.{PutRequest}
 use Rattle.rules.specs.declared.SegmentRequest.{SegmentRequest}
 use Rattle.rules.specs.declared.Frame.{Frame}
 use Rattle.rules.specs.declared.Framed.{Framed}
@@ -24,11 +31,47 @@ use Rattle.rules.specs.declared.Queue.{Queue}
 use Rattle.rules.specs.declared.State.{State}
 use Rattle.rules.specs.declared.Refusal.{Refusal}
 use Rattle.rules.specs.declared.Refusal.the-variants.{UnexpectedPdu, InvalidNakPdu, RetransmitFull, OtherTransaction, Malformed, CantProcessPacketType}
+use Rattle.rules.specs.declared.Answer.{Answer}
+use Rattle.rules.specs.declared.Answer.the-variants.{Accepted, Refused}
 use Rattle.rules.specs.declared.Done.{Done}
+use Rattle.rules.specs.declared.Cancelled.{Cancelled}
 use Rattle.rules.proofs.Tiles.{Within}
 use Rattle.rules.proofs.Pending.{Orderly, answers-within, all-answers, orderly-all}
 
--- what holds of every refusal and of what the table says, holds of the delivery with its requests
+-- ---- put
+
+-- a test that passed
+pub passed : (b : Bool) (x : Answer) (r : Refusal) → pick b x (Refused r) ≡ Accepted → (b ≡ true) × (x ≡ Accepted)
+passed true x r e = (refl, e)
+passed false x r e = absurd (let z : _≡_ {A = ℕ} 0 1 = cc in omega arith)
+
+module _ (s : State) (P : Event → State → Type 0) (stays : P turned s) where
+  -- accepted only where the handler is Idle
+  pub put-by : ((t : State) → isIdle (s .step) ≡ true → P began t)
+      → (c : LocalEntityConfig) (q : PutRequest) (a b : List ℕ) (S : ℕ) → P (seen (put c q a b S) s) (after (put c q a b S) s)
+  unfolding putSpec putAnswer
+  put-by begins c q a b S = go (putAnswer s c q a b S) (λ e. passed (isIdle (s .step)) _ _ e .0)
+    where
+      go : (x : Answer) → (x ≡ Accepted → isIdle (s .step) ≡ true) → let r = byAnswer s (putState s c q a b S) x in P (unless (r .answer) began) (r .state)
+      go Accepted i = begins (putState s c q a b S) (i refl)
+      go (Refused r) i = stays
+
+  -- ---- cancel
+
+  pub cancel-by : P ended (userCancelled s) → (source : EntityId) (number : TransactionSeqNum) → P (seen (cancel source number) s) (after (cancel source number) s)
+  unfolding cancelSpec
+  cancel-by ends source number = go (mayCancel s source number)
+    where
+      go :
+          (b : Bool)
+          → let r = pick {A = Cancelled} b (record { yes = true; state = userCancelled s }) (record { yes = false; state = s }) in
+          P (pick (r .yes) ended turned) (r .state)
+      go true = ends
+      go false = stays
+
+-- ---- deliver
+
+-- of every refusal and of what the table says
 module _ (s : State) (P : List SegmentRequest → Done → Type 0) (no : (rs : List SegmentRequest) (r : Refusal) → P rs (refused s r))
     (yes : (bytes : List ℕ) (f : Frame) (m : Meaning) → P (asked bytes f m) (byVerdict s bytes f m (verdictOf (s .step) m))) where
   heard-by : (bytes : List ℕ) (f : Frame) (m : Meaning) → P (asked bytes f m) (heard s bytes f m)
