@@ -231,22 +231,22 @@ module _ (h : State) (c : LocalEntityConfig) (q : PutRequest) (source destinatio
   unfolding putState started pending
   begun =
       rw (p .state-is) (
-        record {
-          sends =
-              record {
-                head-is = refl;
-                closure-is = refl;
-                type-is = refl;
-                segment-is = refl;
-                size-is = refl;
-                source-is = name-kept source (names .0 .1);
-                destination-is = name-kept destination (names .1 .1);
-              };
-          pos = range .0;
-          unmarked = refl;
-          orderly = orderly-empty (transfer .segment) (length file);
-          here = (refl, refl);
-        }
+      record {
+        sends =
+            record {
+              head-is = refl;
+              closure-is = refl;
+              type-is = refl;
+              segment-is = refl;
+              size-is = refl;
+              source-is = name-kept source (names .0 .1);
+              destination-is = name-kept destination (names .1 .1);
+            };
+        pos = range .0;
+        unmarked = refl;
+        orderly = orderly-empty (transfer .segment) (length file);
+        here = (refl, refl);
+      }
       )
 
   pub begun-step : putSpec h c q source destination (length file) .state .step ≡ SendingMetadata
