@@ -244,7 +244,7 @@ module _ (h : State) (c : LocalEntityConfig) (q : PutRequest) (source destinatio
             };
         pos = range .0;
         unmarked = refl;
-        orderly = orderly-empty (transfer .segment) (length file);
+        orderly = orderly-empty (transfer .segment) 0;
         here = (refl, refl);
       }
       )

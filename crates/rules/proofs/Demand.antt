@@ -50,7 +50,7 @@ module _ (w : Transfer) (g : Fit (w .head)) (cs : List Call) (ih : (t : State) �
       → BeforeEof (made (some (bytesOf w d)) ∷ trace cs t)
       → Kept w s (made (some (bytesOf w d)) ∷ trace cs t) (behind cs t)
   unfolding firstPass repairs steps owed R
-  on-does s x y (Does.serves-one d t q p z j) f =
+  on-does s x y (Does.serves-one d t q p z m v j) f =
       let k = ih t j (f .1) in
       let kc = k .counted in
       let lq = ap length q in
@@ -63,7 +63,7 @@ module _ (w : Transfer) (g : Fit (w .head)) (cs : List Call) (ih : (t : State) �
         within = k .within;
         counted = omega arith;
       }
-  on-does s x y (Does.advances d t q u p z j) f =
+  on-does s x y (Does.advances d t q u p z m j) f =
       let k = ih t j (f .1) in
       let kc = k .counted in
       let qa = none-owed w s q in
@@ -91,7 +91,7 @@ module _ (w : Transfer) (g : Fit (w .head)) (cs : List Call) (ih : (t : State) �
   on-call s x y i Moves.refuses f =
       let k = ih s i f in
       record { inv = k .inv; no-put = k .no-put; first = k .first; repaired = k .repaired; within = k .within; counted = k .counted }
-  on-call s x y i (Moves.takes bytes t q p v j) f =
+  on-call s x y i (Moves.takes bytes t q p v m j) f =
       let L = w .segment in
       let k = ih t j f in
       let kc = k .counted in
@@ -199,19 +199,19 @@ length-owed L (took m ∷ es) = rw (length-append (answers L (requests m)) (owed
 length-owed L (made d ∷ es) = length-owed L es
 length-owed L (ended ∷ es) = length-owed L es
 
+pub at-start : (w : Transfer) (s : State) → Inv w s → s .step ≡ SendingMetadata → (pending (s .queue) ≡ []) × (s .file .progress ≡ 0)
+at-start w s i a = rw a at (i .here)
+
 -- ---- before the EOF, from the state that a put made
 
 module _ (w : Transfer) (c : Carries w) (s : State) (i : Inv w s) (a : s .step ≡ SendingMetadata) (es : List Event) (t : State) (k : Kept w s es t) where
-  at-start : (pending (s .queue) ≡ []) × (s .file .progress ≡ 0)
-  at-start = rw a at (i .here)
-
   plan-is : planOf w s ≡ planned w ++ lastly w ∷ []
-  plan-is = rw (a, at-start .1, sub-zero (length (w .file)))
+  plan-is = rw (a, at-start w s i a .1, sub-zero (length (w .file)))
 
   -- what is sent, and what is still to come, besides repairs
   first-pass : firstPass (w .segment) 0 es ++ map (bytesOf w) (planOf w t) ≡ map (bytesOf w) (planned w ++ lastly w ∷ [])
   first-pass =
-      let z : length (owedBy w s) ≡ 0 = ap length (none-owed w s (at-start .0)) in
+      let z : length (owedBy w s) ≡ 0 = ap length (none-owed w s (at-start w s i a .0)) in
       (rw z at (k .first)) ∙ ap (map (bytesOf w)) plan-is
 
   -- without the EOF
@@ -224,12 +224,12 @@ module _ (w : Transfer) (c : Carries w) (s : State) (i : Inv w s) (a : s .step �
       ∙ map-append (bytesOf w) (planned w) (lastly w ∷ []))
 
   repaired-all : repairs (w .segment) 0 es ++ map (bytesOf w) (owedBy w t) ≡ map (bytesOf w) (owed (w .segment) es)
-  repaired-all = rw (none-owed w s (at-start .0)) at (k .repaired)
+  repaired-all = rw (none-owed w s (at-start w s i a .0)) at (k .repaired)
 
   total : steps es + length (owedBy w t) + length (planOf w t) ≡ eofStep w es
   total =
       let kc = k .counted in
-      let z : length (owedBy w s) ≡ 0 = ap length (none-owed w s (at-start .0)) in
+      let z : length (owedBy w s) ≡ 0 = ap length (none-owed w s (at-start w s i a .0)) in
       let lp = simp length-append at (ap length plan-is) in
       let lt = length-tiles (w .segment) 0 (length (w .file)) in
       omega arith
@@ -276,12 +276,12 @@ module _ (w : Transfer) (c : Carries w) (s : State) (i : Inv w s) (a : s .step �
       }
 
   on-emitted : (d : Sending) (u : State) → DoesFrom w t d u → AtStep w es (some (bytesOf w d))
-  on-emitted x y (Does.serves-one d u q p z j) =
+  on-emitted x y (Does.serves-one d u q p z m n j) =
       let lq = ap length q in
       let lp = plan-pos w t (k .inv) in
       let tot = total in
       not-yet (some (bytesOf w d)) (small-no-eof w (c .fit) d z) (omega arith)
-  on-emitted x y (Does.advances d u q v p z j) =
+  on-emitted x y (Does.advances d u q v p z m j) =
       let ll = ap length p in
       let lp = plan-pos w u j in
       let tot = total in
@@ -297,7 +297,7 @@ module _ (w : Transfer) (c : Carries w) (s : State) (i : Inv w s) (a : s .step �
 
   on-next : (e : Event) (u : State) (d : Option (List ℕ)) → Moves w t e u → e ≡ made d → AtStep w es d
   on-next x y d Moves.refuses e = absurd (let z : _≡_ {A = ℕ} 0 1 = cc in omega arith)
-  on-next x y d (Moves.takes m u q p v j) e = absurd (let z : _≡_ {A = ℕ} 0 1 = cc in omega arith)
+  on-next x y d (Moves.takes m u q p v n j) e = absurd (let z : _≡_ {A = ℕ} 0 1 = cc in omega arith)
   on-next x y d (Moves.emits b u z) e = let g : some (bytesOf w b) ≡ d = cc in rw g at (on-emitted b u z)
   on-next x y d (Moves.ends u) e = absurd (let z : _≡_ {A = ℕ} 0 1 = cc in omega arith)
 

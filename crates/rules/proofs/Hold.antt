@@ -58,8 +58,8 @@ use Rattle.rules.specs.declared.Answer.{Answer}
 use Rattle.rules.specs.declared.Answer.the-variants.{Accepted, Refused}
 use Rattle.rules.specs.declared.Done.{Done}
 use Rattle.rules.specs.declared.Cancelled.{Cancelled}
-use Rattle.rules.proofs.Tiles.{tiles-zero, tiles-step, tiles-one, Within}
-use Rattle.rules.proofs.Pending.{pending-none, pending-first, Orderly, served-answers, orderly-served}
+use Rattle.rules.proofs.Tiles.{tiles-zero, tiles-step, tiles-one, Within, within-more}
+use Rattle.rules.proofs.Pending.{pending-none, pending-first, Orderly, orderly-more, due-within, served-answers, orderly-served}
 use Rattle.rules.proofs.Outcomes.{put-by, cancel-by, delivered-by, Naks, nak-adds}
 use Rattle.rules.proofs.Emits.{encoded, bytesOf, Sends, encode-pos, Shows, step-shows}
 
@@ -89,7 +89,7 @@ pub record Inv (w : Transfer) (s : State) : Type 0 where
   pub sends : Sends (s .fixed) (s .names) w
   pub pos : 0 < w .segment
   pub unmarked : s .marks .cancelled ≡ false
-  pub orderly : Orderly (w .segment) (length (w .file)) (s .queue)
+  pub orderly : Orderly (w .segment) (s .file .progress) (s .queue)
   pub here : At (length (w .file)) (s .step) (s .file .progress) (pending (s .queue))
 
 abbrev pub planOf : Transfer → State → List Sending
@@ -125,6 +125,14 @@ small-some w (FileData o n) h = encode-pos (w .head) _
 small-some w (EofPdu e) h = absurd h
 small-some w (AckFinished c) h = absurd h
 
+-- the metadata PDU, or data that begins at the progress p and moves it to r
+abbrev pub Onward : ℕ → ℕ → Sending → Type 0
+Onward p r NoPdu = ⊥
+Onward p r MetadataPdu = r ≡ p
+Onward p r (FileData o n) = (o ≡ p) × (r ≡ p + n)
+Onward p r (EofPdu e) = ⊥
+Onward p r (AckFinished c) = ⊥
+
 -- what a step emits and comes to, from a state with the pending list q, the step k and the progress p
 pub data Does (w : Transfer) (q : List SegmentRequest) (k : TransactionStep) (p : ℕ) : Sending → State → Type 0 where
   serves-one :
@@ -132,6 +140,8 @@ pub data Does (w : Transfer) (q : List SegmentRequest) (k : TransactionStep) (p 
       → answers (w .segment) q ≡ d ∷ owedBy w t
       → planOf w t ≡ plan w k p
       → Small (w .segment) d
+      → t .file .progress ≡ p
+      → Within (w .segment) p (d ∷ [])
       → Inv w t
       → Does w q k p d t
   advances :
@@ -140,6 +150,7 @@ pub data Does (w : Transfer) (q : List SegmentRequest) (k : TransactionStep) (p 
       → pending (t .queue) ≡ []
       → plan w k p ≡ d ∷ planOf w t
       → Small (w .segment) d
+      → Onward p (t .file .progress) d
       → Inv w t
       → Does w q k p d t
   closes : (t : State) → q ≡ [] → plan w k p ≡ lastly w ∷ [] → Does w q k p (lastly w) t
@@ -155,6 +166,7 @@ pub data Moves (w : Transfer) (s : State) : Event → State → Type 0 where
       → owedBy w t ≡ owedBy w s ++ answers (w .segment) (requests bytes)
       → planOf w t ≡ planOf w s
       → Within (w .segment) (length (w .file)) (answers (w .segment) (requests bytes))
+      → t .file .progress ≡ s .file .progress
       → Inv w t
       → Moves w s (took bytes) t
   emits : (d : Sending) (t : State) → DoesFrom w s d t → Moves w s (made (some (bytesOf w d))) t
@@ -178,7 +190,7 @@ moved s k f q = record { number = s .number; step = k; fixed = s .fixed; names =
 module _ (w : Transfer) (s : State) (i : Inv w s) where
   held :
       (k : TransactionStep) (f : FileParams) (q : Queue)
-      → Orderly (w .segment) (length (w .file)) q
+      → Orderly (w .segment) (f .progress) q
       → At (length (w .file)) k (f .progress) (pending q)
       → Inv w (moved s k f q)
   held k f q o h = record { sends = i .sends; pos = i .pos; unmarked = i .unmarked; orderly = o; here = h }
@@ -186,19 +198,21 @@ module _ (w : Transfer) (s : State) (i : Inv w s) where
   repair-does : (n : ℕ) → n ≡ w .segment → 0 < s .queue .count → DoesFrom w s (repairOf n (oldest (s .queue))) (withQueue s (served n (s .queue)))
   repair-does n e c =
       let L = w .segment in
-      let S = length (w .file) in
+      let p = s .file .progress in
       let q = s .queue in
-      rw e (serves-one (repairOf L (oldest q)) (withQueue s (served L q)) (served-answers L S (i .pos) q (i .orderly) c) refl (small-repair L (oldest q))
-      (held (s .step) (s .file) (served L q) (orderly-served L S (i .pos) q (i .orderly) c)
-      (at-rest S (s .step) (s .file .progress) (oldest q) (pending (pop q)) (pending (served L q)) (rw (pending-first q (i .orderly .formed) c) at (i .here)))))
+      rw e (serves-one (repairOf L (oldest q)) (withQueue s (served L q)) (served-answers L p (i .pos) q (i .orderly) c) refl (small-repair L (oldest q))
+      refl (due-within L p (i .pos) q (i .orderly) c)
+      (held (s .step) (s .file) (served L q) (orderly-served L p (i .pos) q (i .orderly) c)
+      (at-rest (length (w .file)) (s .step) (s .file .progress) (oldest q) (pending (pop q)) (pending (served L q)) (rw (pending-first q (i .orderly .formed) c) at (i .here)))))
 
   module _ (none-left : pending (s .queue) ≡ []) where
     -- another step and progress, nothing pending
     gone-on :
         (k : TransactionStep) (f : FileParams)
+        → s .file .progress ≤ f .progress
         → At (length (w .file)) k (f .progress) (pending (s .queue))
         → Inv w (moved s k f (s .queue))
-    gone-on k f h = held k f (s .queue) (i .orderly) h
+    gone-on k f l h = held k f (s .queue) (orderly-more (w .segment) (s .file .progress) (f .progress) (s .queue) l (i .orderly)) h
 
     metadata-does : s .file .progress ≡ 0 → Does w (pending (s .queue)) SendingMetadata (s .file .progress) MetadataPdu (afterMetadata s)
     unfolding afterMetadata
@@ -211,12 +225,12 @@ module _ (w : Transfer) (s : State) (i : Inv w s) where
             let n = eqb-true (s .fixed .size) 0 e in
             let y = i .sends .size-is in
             let none-to-send : length (w .file) - s .file .progress ≡ 0 = omega arith in
-            advances MetadataPdu (toStep s SendingEof) none-left none-left (rw (none-to-send, tiles-zero (w .segment) (s .file .progress) (i .pos))) tt
-            (gone-on SendingEof (s .file) (omega arith))
+            advances MetadataPdu (toStep s SendingEof) none-left none-left (rw (none-to-send, tiles-zero (w .segment) (s .file .progress) (i .pos))) tt refl
+            (gone-on SendingEof (s .file) (omega arith) (omega arith))
         go false e =
             let n = eqb-false (s .fixed .size) 0 e in
             let y = i .sends .size-is in
-            advances MetadataPdu (toStep s SendingFileData) none-left none-left refl tt (gone-on SendingFileData (s .file) (omega arith))
+            advances MetadataPdu (toStep s SendingFileData) none-left none-left refl tt refl (gone-on SendingFileData (s .file) (omega arith) (omega arith))
 
     -- n: the bytes that go out, p: the progress behind them
     data-does :
@@ -237,8 +251,8 @@ module _ (w : Transfer) (s : State) (i : Inv w s) where
             let b = eqb-true p (s .fixed .size) e in
             let y = i .sends .size-is in
             let last = tiles-one (w .segment) (s .file .progress) (length (w .file) - s .file .progress) (omega arith) (omega arith) in
-            advances (FileData (s .file .progress) n) (toStep (onward s p) SendingEof) none-left none-left (rw (last, d)) small
-            (gone-on SendingEof (onward s p .file) (omega arith))
+            advances (FileData (s .file .progress) n) (toStep (onward s p) SendingEof) none-left none-left (rw (last, d)) small (refl, g)
+            (gone-on SendingEof (onward s p .file) (omega arith) (omega arith))
         go false e =
             let b = eqb-false p (s .fixed .size) e in
             let y = i .sends .size-is in
@@ -246,8 +260,8 @@ module _ (w : Transfer) (s : State) (i : Inv w s) where
             let left : length (w .file) - s .file .progress - w .segment ≡ length (w .file) - p = omega arith in
             let on : s .file .progress + w .segment ≡ p = omega arith in
             let first = tiles-step (w .segment) (s .file .progress) (length (w .file) - s .file .progress) (i .pos) (omega arith) in
-            advances (FileData (s .file .progress) n) (onward s p) none-left none-left (rw (a, first, ← d, left, on)) small
-            (gone-on (s .step) (onward s p .file) (rw a (omega arith)))
+            advances (FileData (s .file .progress) n) (onward s p) none-left none-left (rw (a, first, ← d, left, on)) small (refl, g)
+            (gone-on (s .step) (onward s p .file) (omega arith) (rw a (omega arith)))
 
     eof-is : EofPdu (eofFor s (w .file) 0 (s .fixed .size)) ≡ lastly w
     unfolding eofFor
@@ -300,9 +314,21 @@ pub not-idle : (w : Transfer) (s : State) → Inv w s → isIdle (s .step) ≡ f
 not-idle w s i = busy (length (w .file)) (s .step) (s .file .progress) (pending (s .queue)) (i .here)
 
 does-some : {w : Transfer} {q : List SegmentRequest} {k : TransactionStep} {p : ℕ} (d : Sending) (t : State) → Does w q k p d t → 0 < length (bytesOf w d)
-does-some {w} x y (Does.serves-one d t a b c e) = small-some w d c
-does-some {w} x y (Does.advances d t a b c e f) = small-some w d e
+does-some {w} x y (Does.serves-one d t a b c e f g) = small-some w d c
+does-some {w} x y (Does.advances d t a b c e f g) = small-some w d e
 does-some {w} x y (Does.closes t a b) = encode-pos (w .head) _
+
+at-le : (S : ℕ) (k : TransactionStep) (p : ℕ) (q : List SegmentRequest) → At S k p q → p ≤ S
+at-le S Idle p q h = absurd h
+at-le S SendingMetadata p q h = omega arith
+at-le S SendingFileData p q h = omega arith
+at-le S SendingEof p q h = omega arith
+at-le S WaitingForEofAck p q h = absurd h
+at-le S WaitingForFinished p q h = absurd h
+at-le S Closing p q h = absurd h
+
+pub sent-le : (w : Transfer) (s : State) → Inv w s → s .file .progress ≤ length (w .file)
+sent-le w s i = at-le (length (w .file)) (s .step) (s .file .progress) (pending (s .queue)) (i .here)
 
 step-moves : (w : Transfer) (s : State) → Inv w s → (lent : List ℕ) (expired : Bool) (out : List ℕ) → LendsIn (w .file) (step lent expired out)
     → Moves w s (seen (step lent expired out) s) (after (step lent expired out) s)
@@ -331,6 +357,7 @@ data Takes (w : Transfer) (s : State) (rs : List SegmentRequest) : Done → Type
       → owedBy w t ≡ owedBy w s ++ answers (w .segment) rs
       → planOf w t ≡ planOf w s
       → Within (w .segment) (length (w .file)) (answers (w .segment) rs)
+      → t .file .progress ≡ s .file .progress
       → Inv w t
       → Takes w s rs (accepted t)
 
@@ -340,15 +367,15 @@ module _ (w : Transfer) (s : State) (i : Inv w s) where
       → ((l : List SegmentRequest) → At (length (w .file)) (s .step) (s .file .progress) l)
       → s .file .progress ≤ length (w .file)
       → Takes w s rs (nakOf s rs)
-  nak-takes rs h l = go (nakOf s rs) (nak-adds (w .segment) (length (w .file)) s (i .pos) (i .orderly) l rs)
+  nak-takes rs h l = go (nakOf s rs) (nak-adds (w .segment) (s .file .progress) s (i .pos) (i .orderly) (omega arith) rs)
     where
-      go : (r : Done) → Naks (w .segment) (length (w .file)) s rs r → Takes w s rs r
+      go : (r : Done) → Naks (w .segment) (s .file .progress) s rs r → Takes w s rs r
       go r (Naks.turns n) = turns n
-      go r (Naks.adds q c a v o) = adds (withQueue s q) a refl v (held w s i (s .step) (s .file) q o (h (pending q)))
+      go r (Naks.adds q c a v o) = adds (withQueue s q) a refl (within-more (w .segment) (s .file .progress) (length (w .file)) (answers (w .segment) rs) l v) refl (held w s i (s .step) (s .file) q o (h (pending q)))
 
   no-effect : Takes w s [] (accepted s)
   unfolding answers
-  no-effect = adds s (sym (append-nil (owedBy w s))) refl tt i
+  no-effect = adds s (sym (append-nil (owedBy w s))) refl tt refl i
 
   -- by the table, step by step
   by-table :
@@ -377,7 +404,7 @@ module _ (w : Transfer) (s : State) (i : Inv w s) where
     where
       go : (r : Done) → Takes w s (requests bytes) r → Moves w s (unless (r .answer) (took bytes)) (r .state)
       go r (Takes.turns n) = refuses
-      go r (Takes.adds t a b c j) = takes bytes t a b c j
+      go r (Takes.adds t a b c d j) = takes bytes t a b c d j
 
   -- ---- all calls
 

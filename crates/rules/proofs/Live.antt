@@ -67,8 +67,8 @@ unfolding pduLength
 last-fits w n i = let a = i .metadata-fits in let b = i .source in let c = i .destination in rw (length-encode (w .head) _) (omega arith)
 
 does-fit : {w : Transfer} {q : List SegmentRequest} {k : TransactionStep} {p : ℕ} (n : ℕ) → Wide w n → (d : Sending) (t : State) → Does w q k p d t → length (bytesOf w d) ≤ n
-does-fit {w} n i x y (Does.serves-one d t a b c j) = small-fits w n i d c
-does-fit {w} n i x y (Does.advances d t a b c e j) = small-fits w n i d e
+does-fit {w} n i x y (Does.serves-one d t a b c f g j) = small-fits w n i d c
+does-fit {w} n i x y (Does.advances d t a b c e f j) = small-fits w n i d e
 does-fit {w} n i x y (Does.closes t a b) = last-fits w n i
 
 unchanged : (w : Transfer) (s : State) → Inv w s → changed s (length (w .file)) ≡ false

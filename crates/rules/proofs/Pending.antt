@@ -20,7 +20,7 @@ use Rattle.rules.specs.declared.SegmentRequest.{SegmentRequest}
 use Rattle.rules.specs.declared.Queue.{Queue}
 use Rattle.rules.specs.declared.Sending.{Sending}
 use Rattle.rules.specs.declared.Sending.the-variants.{Metadata as MetadataPdu, FileData}
-use Rattle.rules.proofs.Tiles.{tiles-zero, tiles-step, tiles-one, Within, within-append, within-rest, tiles-within, answers-append}
+use Rattle.rules.proofs.Tiles.{tiles-zero, tiles-step, tiles-one, Within, within-append, within-more, within-first, within-rest, tiles-within, answers-append}
 
 -- 64 places, and no more of them used
 pub record Formed (q : Queue) : Type 0 where
@@ -283,7 +283,14 @@ module _ (L S : ℕ) where
   unfolding pending answers
   orderly-empty = record { formed = record { size = refl; used = omega arith }; owe = tt; within = tt }
 
+  pub orderly-more : (T : ℕ) (q : Queue) → S ≤ T → Orderly L S q → Orderly L T q
+  orderly-more T q l o = record { formed = o .formed; owe = o .owe; within = within-more L S T (answers L (pending q)) l (o .within) }
+
   module _ (pos : 0 < L) (q : Queue) (o : Orderly L S q) where
+    -- where the piece that is due lies
+    pub due-within : 0 < q .count → Within L S (repairOf L (oldest q) ∷ [])
+    due-within p = within-first L S (repairOf L (oldest q)) (answers L (pending (served L q))) (rw (serves L pos q (o .formed) p (o .owe) .answers-are) at (o .within))
+
     pub served-answers : 0 < q .count → answers L (pending q) ≡ repairOf L (oldest q) ∷ answers L (pending (served L q))
     served-answers p = serves L pos q (o .formed) p (o .owe) .answers-are
 

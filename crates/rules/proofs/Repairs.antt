@@ -52,10 +52,10 @@ use Rattle.rules.specs.declared.Done.{Done}
 use Rattle.rules.specs.declared.Stepped.{Stepped}
 use Rattle.rules.specs.declared.Cancelled.{Cancelled}
 use Rattle.rules.proofs.Tiles.{length-answers}
-use Rattle.rules.proofs.Pending.{pending-none, Orderly, orderly-empty, served-answers, orderly-served}
+use Rattle.rules.proofs.Pending.{pending-none, Orderly, orderly-empty, orderly-more, served-answers, orderly-served}
 use Rattle.rules.proofs.Outcomes.{put-by, cancel-by, delivered-by, Naks, nak-adds}
 use Rattle.rules.proofs.Emits.{bytesOf, Sends, Shows, step-shows}
-use Rattle.rules.proofs.Hold.{At, Inv, owedBy, none-owed, not-idle, small-repair, small-some}
+use Rattle.rules.proofs.Hold.{Inv, sent-le, owedBy, none-owed, not-idle, small-repair, small-some}
 use Rattle.rules.proofs.Stream.{Carries, all-read}
 use Rattle.rules.proofs.Begun.{put-passed, carries, begun}
 
@@ -407,21 +407,12 @@ all-served w c s l bytes p r (Heeds.adds t m o b) a ds k f h =
     ∙ ap (take (steps (trace ds t))) (all-read w c (owedBy w t) (b .orderly .within) ∙ ap (map (meant w)) o)
 all-served w c s l bytes p r (Heeds.others t e j) a ds k f h = let z = ap length e in absurd (omega arith)
 
-at-le : (S : ℕ) (k : TransactionStep) (p : ℕ) (q : List SegmentRequest) → At S k p q → p ≤ S
-at-le S Idle p q h = absurd h
-at-le S SendingMetadata p q h = omega arith
-at-le S SendingFileData p q h = omega arith
-at-le S SendingEof p q h = omega arith
-at-le S WaitingForEofAck p q h = absurd h
-at-le S WaitingForFinished p q h = absurd h
-at-le S Closing p q h = absurd h
-
 loosened : (w : Transfer) (s : State) → Inv w s → Loose w s
 loosened w s i =
     works (record {
       sends = i .sends;
-      orderly = i .orderly;
-      progress = at-le (length (w .file)) (s .step) (s .file .progress) (pending (s .queue)) (i .here);
+      orderly = orderly-more (w .segment) (s .file .progress) (length (w .file)) (s .queue) (sent-le w s i) (i .orderly);
+      progress = sent-le w s i;
       awake = not-idle w s i;
     })
 

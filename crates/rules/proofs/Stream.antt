@@ -55,7 +55,7 @@ module _ (w : Transfer) (c : Carries w) where
   metadata-read : decode (bytesOf w MetadataPdu) ≡ meant w MetadataPdu
   metadata-read = round-trip (w .head) _ (c .fit) (c .type, c .size, c .source, c .destination)
 
-  taken-length : (a n : ℕ) → a + n ≤ length (w .file) → length (take n (drop a (w .file))) ≡ n
+  pub taken-length : (a n : ℕ) → a + n ≤ length (w .file) → length (take n (drop a (w .file))) ≡ n
   taken-length a n h = simp (length-take, length-drop) (omega arith)
 
   data-read : (a n : ℕ) → a + n ≤ length (w .file) → n ≤ w .segment → decode (bytesOf w (FileData a n)) ≡ meant w (FileData a n)
@@ -72,17 +72,17 @@ module _ (w : Transfer) (c : Carries w) where
   all-read [] h = refl
   all-read (NoPdu ∷ ps) h = absurd h
   all-read (MetadataPdu ∷ ps) h = ap₂ (λ (a : Option Pdu) (l : List (Option Pdu)). a ∷ l) metadata-read (all-read ps h)
-  all-read (FileData o n ∷ ps) h = ap₂ (λ (a : Option Pdu) (l : List (Option Pdu)). a ∷ l) (data-read o n (h .0) (h .1)) (all-read ps (h .2))
+  all-read (FileData o n ∷ ps) h = ap₂ (λ (a : Option Pdu) (l : List (Option Pdu)). a ∷ l) (data-read o n (h .1) (h .2)) (all-read ps (h .3))
   all-read (EofPdu e ∷ ps) h = absurd h
   all-read (AckFinished k ∷ ps) h = absurd h
 
   -- ---- the file data in them
 
-  data-of : (a n : ℕ) → a + n ≤ length (w .file) → n ≤ w .segment → fileDataOf (bytesOf w (FileData a n)) ≡ some (a, take n (drop a (w .file)))
+  pub data-of : (a n : ℕ) → a + n ≤ length (w .file) → n ≤ w .segment → fileDataOf (bytesOf w (FileData a n)) ≡ some (a, take n (drop a (w .file)))
   unfolding fileDataOf
   data-of a n h l = rw (data-read a n h l)
 
-  metadata-of : fileDataOf (bytesOf w MetadataPdu) ≡ none
+  pub metadata-of : fileDataOf (bytesOf w MetadataPdu) ≡ none
   unfolding fileDataOf
   metadata-of = rw metadata-read
 
@@ -91,7 +91,7 @@ module _ (w : Transfer) (c : Carries w) where
   carried-sizes [] h = refl
   carried-sizes (NoPdu ∷ ps) h = absurd h
   carried-sizes (MetadataPdu ∷ ps) h = let i = carried-sizes ps h in rw metadata-of (omega arith)
-  carried-sizes (FileData o n ∷ ps) h = rw (data-of o n (h .0) (h .1), taken-length o n (h .0), carried-sizes ps (h .2))
+  carried-sizes (FileData o n ∷ ps) h = rw (data-of o n (h .1) (h .2), taken-length o n (h .1), carried-sizes ps (h .3))
   carried-sizes (EofPdu e ∷ ps) h = absurd h
   carried-sizes (AckFinished k ∷ ps) h = absurd h
 

@@ -121,12 +121,12 @@ tiled-le L a b (FileData o n ∷ ps) h = let i = tiled-le L (a + n) b ps (h .3) 
 tiled-le L a b (EofPdu e ∷ ps) h = absurd h
 tiled-le L a b (AckFinished c ∷ ps) h = absurd h
 
--- metadata PDUs, and file data PDUs that lie in the first S bytes with at most L of them each
+-- metadata PDUs, and file data PDUs that lie in the first S bytes, each with at least one and at most L of them
 abbrev pub Within : ℕ → ℕ → List Sending → Type 0
 Within L S [] = Unit {0}
 Within L S (NoPdu ∷ ps) = ⊥
 Within L S (MetadataPdu ∷ ps) = Within L S ps
-Within L S (FileData o n ∷ ps) = (o + n ≤ S) × (n ≤ L) × Within L S ps
+Within L S (FileData o n ∷ ps) = (0 < n) × (o + n ≤ S) × (n ≤ L) × Within L S ps
 Within L S (EofPdu e ∷ ps) = ⊥
 Within L S (AckFinished c ∷ ps) = ⊥
 
@@ -134,14 +134,29 @@ pub within-append : (L S : ℕ) (ps qs : List Sending) → Within L S ps → Wit
 within-append L S [] qs h k = k
 within-append L S (NoPdu ∷ ps) qs h k = h
 within-append L S (MetadataPdu ∷ ps) qs h k = within-append L S ps qs h k
-within-append L S (FileData o n ∷ ps) qs h k = (h .0, h .1, within-append L S ps qs (h .2) k)
+within-append L S (FileData o n ∷ ps) qs h k = (h .0, h .1, h .2, within-append L S ps qs (h .3) k)
 within-append L S (EofPdu e ∷ ps) qs h k = h
 within-append L S (AckFinished c ∷ ps) qs h k = h
+
+pub within-more : (L S T : ℕ) (ps : List Sending) → S ≤ T → Within L S ps → Within L T ps
+within-more L S T [] l h = tt
+within-more L S T (NoPdu ∷ ps) l h = h
+within-more L S T (MetadataPdu ∷ ps) l h = within-more L S T ps l h
+within-more L S T (FileData o n ∷ ps) l h = (h .0, omega arith, h .2, within-more L S T ps l (h .3))
+within-more L S T (EofPdu e ∷ ps) l h = h
+within-more L S T (AckFinished c ∷ ps) l h = h
+
+pub within-first : (L S : ℕ) (d : Sending) (ps : List Sending) → Within L S (d ∷ ps) → Within L S (d ∷ [])
+within-first L S NoPdu ps h = h
+within-first L S MetadataPdu ps h = tt
+within-first L S (FileData o n) ps h = (h .0, h .1, h .2, tt)
+within-first L S (EofPdu e) ps h = h
+within-first L S (AckFinished c) ps h = h
 
 pub within-rest : (L S : ℕ) (d : Sending) (ps : List Sending) → Within L S (d ∷ ps) → Within L S ps
 within-rest L S NoPdu ps h = absurd h
 within-rest L S MetadataPdu ps h = h
-within-rest L S (FileData o n) ps h = h .2
+within-rest L S (FileData o n) ps h = h .3
 within-rest L S (EofPdu e) ps h = absurd h
 within-rest L S (AckFinished c) ps h = absurd h
 
@@ -151,7 +166,7 @@ tiled-within L S a b (NoPdu ∷ ps) h l = absurd h
 tiled-within L S a b (MetadataPdu ∷ ps) h l = absurd h
 tiled-within L S a b (FileData o n ∷ ps) h l =
     let i = tiled-le L (a + n) b ps (h .3) in
-    (omega arith, h .2, tiled-within L S (a + n) b ps (h .3) l)
+    (h .1, omega arith, h .2, tiled-within L S (a + n) b ps (h .3) l)
 tiled-within L S a b (EofPdu e ∷ ps) h l = absurd h
 tiled-within L S a b (AckFinished c ∷ ps) h l = absurd h
 

@@ -1,12 +1,12 @@
 -- The third demand, on bytes: which PDUs leave after an accepted put, in which step the EOF leaves and what it says; and its companions.
--- Proofs: proofs/Demand.antt, proofs/Live.antt, proofs/Repairs.antt.
+-- Proofs: proofs/Demand.antt, proofs/Live.antt, proofs/Apart.antt, proofs/Repairs.antt.
 -- Assumes nothing.
 use mathlib.Core.Path.{_≡_}
 use mathlib.Core.Logic.{_↔_}
 use mathlib.Core.Bool.{Bool, true, false}
 use mathlib.Core.List.{List, [], _∷_, _++_, map}
 use mathlib.Core.Option.{Option, none, some}
-use Prim.Native.Nat.{ℕ, suc, _+_, _^_, _<_, _≤_}
+use Prim.Native.Nat.{ℕ, zero, suc, _+_, _^_, _<_, _≤_}
 use lib.Dec.{eqb}
 use lib.ListN.{length, take, drop}
 use Rattle.basis.specs.Pick.{pick}
@@ -24,7 +24,7 @@ use Rattle.rules.specs.Deliver.{deliverSpec}
 use Rattle.rules.specs.Step.{stepSpec}
 use Rattle.rules.specs.Cancel.{newSpec}
 use Rattle.rules.specs.Tiles.{ceil, tiles, answers, weights}
-use Rattle.rules.specs.Runs.{Call, Event, made, trace, behind, Lends, steps, isEof, BeforeEof, NoPut, NoEnd, StepsOnly, requests, emitted, owed, R, firstPass, repairs}
+use Rattle.rules.specs.Runs.{Call, Event, turned, began, took, made, ended, trace, behind, Lends, steps, isEof, BeforeEof, NoPut, NoEnd, StepsOnly, requests, emitted, owed, R, firstPass, repairs}
 use Rattle.rules.specs.declared.TransactionSeqNum.{TransactionSeqNum}
 use Rattle.rules.specs.declared.Head.{Head}
 use Rattle.rules.specs.declared.RemoteEntityConfig.{RemoteEntityConfig}
@@ -181,6 +181,40 @@ ProgressMade =
     → let s = putSpec h c q source destination (length file) .state in
     BeforeEof (trace cs s)
     → behind cs s .file .progress ≡ carried (firstPass (transferOf c q (h .number) source destination file .segment) 0 (trace cs s))
+
+-- PROMISE told-apart: repairs and first pass can also be told apart by offsets alone. First-pass data begins at the mark, the number of first-pass
+-- bytes before it, and moves it; a repair's data lies below the mark.
+abbrev pub dataIn : Option (List ℕ) → Option (ℕ × List ℕ)
+dataIn none = none
+dataIn (some b) = fileDataOf b
+
+abbrev pub BeginsAt : ℕ → Option (ℕ × List ℕ) → Type 0
+BeginsAt mark none = Unit {0}
+BeginsAt mark (some d) = d .0 ≡ mark
+
+abbrev pub LiesBelow : ℕ → Option (ℕ × List ℕ) → Type 0
+LiesBelow mark none = Unit {0}
+LiesBelow mark (some d) = (d .0 < mark) × (d .0 + length (d .1) ≤ mark)
+
+-- k as in `firstPass`
+abbrev pub Apart : ℕ → ℕ → ℕ → List Event → Type 0
+Apart L k mark [] = Unit {0}
+Apart L k mark (turned ∷ es) = Apart L k mark es
+Apart L k mark (began ∷ es) = Apart L k mark es
+Apart L k mark (took bytes ∷ es) = Apart L (k + weights L (requests bytes)) mark es
+Apart L zero mark (made d ∷ es) = BeginsAt mark (dataIn d) × Apart L zero (onto (dataIn d) mark) es
+Apart L (suc k) mark (made d ∷ es) = LiesBelow mark (dataIn d) × Apart L k mark es
+Apart L k mark (ended ∷ es) = Apart L k mark es
+
+abbrev pub ToldApart : Type 0
+ToldApart =
+    (h : State) (c : LocalEntityConfig) (q : PutRequest) (source destination file : List ℕ)
+    → Bytes file → length file < 2 ^ 64
+    → putSpec h c q source destination (length file) .answer ≡ Accepted
+    → (cs : List Call) → Lends file cs
+    → let s = putSpec h c q source destination (length file) .state in
+    BeforeEof (trace cs s)
+    → Apart (transferOf c q (h .number) source destination file .segment) 0 0 (trace cs s)
 
 -- PROMISE second-put: of the handler that it finds Idle, a put reads the sequence number and nothing else. A used one answers as a fresh one with
 -- that number, and after an accepted put shows the same for the same calls.
