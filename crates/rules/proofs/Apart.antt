@@ -1,18 +1,17 @@
 -- Repairs lie below the first pass's mark, and the first pass begins at it: the mark is the handler's progress, and what is owed lies below progress.
 -- Assumes nothing.
-use mathlib.Core.Path.{_≡_, refl, sym, ap, subst, _∙_}
-use mathlib.Core.Bool.{Bool, true, false, true≢false}
-use mathlib.Core.List.{List, [], _∷_, _++_}
-use mathlib.Core.Option.{Option, none, some}
-use Prim.Native.Nat.{ℕ, zero, suc, _+_, _≤_, _<_}
+use mathlib.Core.Path.{_≡_, sym, ap, subst, _∙_}
+use mathlib.Core.Bool.{true≢false}
+use mathlib.Core.List.{List, [], _∷_}
+use mathlib.Core.Option.{some}
+use Prim.Native.Nat.{ℕ, _+_, _≤_}
 use native.Mathlib.Omega.{arith}
-use lib.ListN.{length, take, drop, length-append}
+use lib.ListN.{length, length-append}
 use Rattle.rules.specs.Decoding.{fileDataOf}
-use Rattle.rules.specs.Queues.{pending}
 use Rattle.rules.specs.Put.{putSpec}
 use Rattle.rules.specs.Tiles.{answers, weights}
-use Rattle.rules.specs.Runs.{Call, Event, turned, began, took, made, ended, after, seen, trace, Lends, BeforeEof, requests}
-use Rattle.rules.specs.Demand.{Transfer, onto, dataIn, BeginsAt, LiesBelow, Apart, ToldApart}
+use Rattle.rules.specs.Runs.{Call, Event, made, after, seen, trace, Lends, BeforeEof, requests}
+use Rattle.rules.specs.Demand.{Transfer, onto, BeginsAt, LiesBelow, Apart, ToldApart}
 use Rattle.rules.specs.declared.State.{State}
 use Rattle.rules.specs.declared.Sending.{Sending}
 use Rattle.rules.specs.declared.Sending.the-variants.{Nothing as NoPdu, Metadata as MetadataPdu, FileData, Eof as EofPdu, AckFinished}

@@ -1,30 +1,28 @@
 -- What an accepted put gives: each condition of refusals 2 to 8 has passed, so the header fits, L is at least 1, and the state sends the transfer
 -- that the put's arguments say.
 -- Assumes nothing.
-use mathlib.Core.Path.{_≡_, refl, sym, ap, _∙_}
-use mathlib.Core.Bool.{Bool, true, false, true≢false, false≢true}
-use mathlib.Core.List.{List, [], _∷_, _++_}
-use Prim.Native.Nat.{ℕ, _+_, _-_, _*_, _^_, _≤_, _<_, min}
+use mathlib.Core.Path.{_≡_, refl, sym, _∙_}
+use mathlib.Core.Bool.{Bool, true, false, false≢true}
+use mathlib.Core.List.{List}
+use Prim.Native.Nat.{ℕ, _+_, _-_, _*_, _^_, _≤_, _<_}
 use native.Mathlib.Nat.{lt-of-lt-of-le}
 use native.Mathlib.Omega.{arith}
 use lib.Dec.{eqb, leb, ltb}
-use lib.ListN.{length, take, replicate, length-replicate}
+use lib.ListN.{length, take, replicate}
 use lib.Pow.{pow-mono}
 use lib.Seq.{take-append-seam}
 use borrow.Author.Tests.{eqb-true, eqb-false, leb-true, ltb-true, ltb-false, le-ltb}
-use Rattle.basis.specs.Pick.{pick, flag}
+use Rattle.basis.specs.Pick.{pick}
 use Rattle.basis.specs.Bytes.{Bytes}
 use Rattle.basis.proofs.Pick.{cases}
-use Rattle.rules.specs.Numbers.{goodWidth, fits, larger, widened, H, F, C, isLarge, segmentLength}
-use Rattle.rules.specs.Checksum.{sumOf}
+use Rattle.rules.specs.Numbers.{goodWidth, fits, larger, H, F, C, segmentLength}
 use Rattle.rules.specs.Layout.{metadata, pduLength}
 use Rattle.rules.specs.PduLaws.{Fit}
-use Rattle.rules.specs.States.{isIdle, sourceName, destinationName, emptyQueue}
+use Rattle.rules.specs.States.{isIdle}
 use Rattle.rules.specs.Queues.{pending}
 use Rattle.rules.specs.Utf8.{isUtf8}
-use Rattle.rules.specs.Put.{idsFit, isFound, entryOf, knownType, goodEntry, goodConfig, allKnown, goodLength, goodLengths, headOf, tooLong, padded, paddedLength, namesOf, fixedOf, started, entryAnswer, putAnswer, putState, byAnswer, putSpec}
-use Rattle.rules.specs.Demand.{Transfer, transferBy, transferOf}
-use Rattle.rules.specs.declared.EntityId.{EntityId}
+use Rattle.rules.specs.Put.{idsFit, isFound, entryOf, knownType, goodEntry, goodConfig, allKnown, goodLength, goodLengths, headOf, tooLong, padded, paddedLength, started, entryAnswer, putAnswer, putState, putSpec}
+use Rattle.rules.specs.Demand.{Transfer, transferOf}
 use Rattle.rules.specs.declared.TransactionSeqNum.{TransactionSeqNum}
 use Rattle.rules.specs.declared.Head.{Head}
 use Rattle.rules.specs.declared.RemoteEntityConfig.{RemoteEntityConfig}
@@ -38,8 +36,7 @@ use Rattle.rules.specs.declared.Answer.the-variants.{Accepted, Refused}
 use Rattle.rules.proofs.Sums.{sum-lt}
 use Rattle.rules.proofs.Round.{size-fits}
 use Rattle.rules.proofs.Pending.{orderly-empty}
-use Rattle.rules.proofs.Outcomes.{passed}
-use Rattle.rules.proofs.Emits.{Sends}
+use Rattle.rules.proofs.Outcomes.{passed, answer-by, state-by}
 use Rattle.rules.proofs.Hold.{Inv}
 use Rattle.rules.proofs.Stream.{Carries}
 
@@ -64,20 +61,13 @@ pub record Passed (h : State) (c : LocalEntityConfig) (q : PutRequest) (source d
   pub lengths : goodLengths (length source) (length destination) ≡ true
   pub short : tooLong (headOf c (entryOf c (q .destination .1)) q (h .number) S) (entryOf c (q .destination .1)) source destination ≡ false
 
-accepted-by : (s t : State) (x : Answer) → byAnswer s t x .answer ≡ Accepted → x ≡ Accepted
-accepted-by s t Accepted e = refl
-accepted-by s t (Refused r) e = e
-
-state-by : (s t : State) (x : Answer) → x ≡ Accepted → byAnswer s t x .state ≡ t
-state-by s t x e = rw e
-
 pub put-passed : (h : State) (c : LocalEntityConfig) (q : PutRequest) (source destination : List ℕ) (S : ℕ)
     → putSpec h c q source destination S .answer ≡ Accepted → Passed h c q source destination S
 unfolding putSpec putAnswer entryAnswer
 put-passed h c q source destination S a =
     let e = entryOf c (q .destination .1) in
     let d = headOf c e q (h .number) S in
-    let x = accepted-by h (putState h c q source destination S) (putAnswer h c q source destination S) a in
+    let x = sym (answer-by h (putState h c q source destination S) (putAnswer h c q source destination S)) ∙ a in
     let p1 = passed (isIdle (h .step)) _ _ x in
     let p2 = passed (idsFit (c .id) (q .destination) (h .number)) _ _ (p1 .1) in
     let p3 = passed (isFound c (q .destination .1)) _ _ (p2 .1) in

@@ -2,20 +2,19 @@
 -- the number of the EOF's step is a length of this.
 -- Assumes nothing.
 use mathlib.Core.Path.{_≡_, refl, sym, ap, ap₂, _∙_}
-use mathlib.Core.Bool.{Bool, true, false, true≢false, false≢true}
+use mathlib.Core.Bool.{false, true≢false}
 use mathlib.Core.List.{List, [], _∷_, _++_, map, map-append, append-nil, append-assoc, append-cancel-right, nil≢cons, head-eq-of-cons-eq, tail-eq-of-cons-eq}
-use mathlib.Core.Option.{Option, none, some}
-use Prim.Native.Nat.{ℕ, zero, suc, _+_, _-_, _≤_, _<_}
+use mathlib.Core.Option.{Option, some}
+use Prim.Native.Nat.{ℕ, suc, _+_, _-_, _<_}
 use native.Mathlib.Nat.{sub-zero}
 use native.Mathlib.Omega.{arith}
 use lib.ListN.{length, length-append, length-map}
-use Rattle.rules.specs.Layout.{Pdu}
 use Rattle.rules.specs.Queues.{pending}
 use Rattle.rules.specs.Decoding.{decode}
 use Rattle.rules.specs.PduLaws.{Fit}
 use Rattle.rules.specs.Put.{putSpec}
-use Rattle.rules.specs.Tiles.{ceil, tiles, answers, weights}
-use Rattle.rules.specs.Runs.{Call, Event, turned, began, took, made, ended, after, seen, trace, behind, LendsIn, Lends, steps, isEof, BeforeEof, NoPut, requests, owed, R, firstPass, repairs}
+use Rattle.rules.specs.Tiles.{tiles, answers, weights}
+use Rattle.rules.specs.Runs.{Call, Event, turned, began, took, made, ended, after, seen, trace, behind, Lends, steps, isEof, BeforeEof, NoPut, requests, owed, R, firstPass, repairs}
 use Rattle.rules.specs.Demand.{Transfer, meant, planned, lastly, eofStep, SoFar, AtEof, AtStep, ThirdDemand}
 use Rattle.rules.specs.declared.SegmentRequest.{SegmentRequest}
 use Rattle.rules.specs.declared.State.{State}
@@ -25,7 +24,7 @@ use Rattle.rules.specs.declared.Sending.{Sending}
 use Rattle.rules.specs.declared.Sending.the-variants.{Metadata as MetadataPdu}
 use Rattle.rules.proofs.Tiles.{length-tiles, length-answers, Within, within-append, tiles-within, sizes, sizes-tiles}
 use Rattle.rules.proofs.Emits.{bytesOf}
-use Rattle.rules.proofs.Hold.{plan, At, Inv, planOf, owedBy, none-owed, Small, Does, DoesFrom, Moves, call-moves}
+use Rattle.rules.proofs.Hold.{plan, At, Inv, planOf, owedBy, none-owed, Does, DoesFrom, Moves, call-moves}
 use Rattle.rules.proofs.Stream.{Carries, last-read, all-read, small-no-eof, last-eof, planned-file, planned-within}
 use Rattle.rules.proofs.Begun.{put-passed, carries, begun, begun-step}
 

@@ -2,47 +2,28 @@
 -- The idea: `plan` is the list of PDUs still to be sent besides repairs, `answers` of the pending list is the list still owed; an unrefused step takes
 -- the head of one of the two, an accepted NAK appends to the second, and nothing else changes them.
 -- Assumes nothing.
-use mathlib.Core.Path.{_≡_, refl, sym, ap, _∙_}
-use mathlib.Core.Bool.{Bool, true, false, true≢false, false≢true}
+use mathlib.Core.Path.{_≡_, refl, sym, _∙_}
+use mathlib.Core.Bool.{Bool, true, false, true≢false}
 use mathlib.Core.List.{List, [], _∷_, _++_, append-nil, cons≢nil}
-use mathlib.Core.Option.{Option, none, some}
-use Prim.Native.Nat.{ℕ, zero, suc, _+_, _-_, _≤_, _<_, min}
+use mathlib.Core.Option.{some}
+use Prim.Native.Nat.{ℕ, _+_, _-_, _≤_, _<_, min}
 use native.Mathlib.Omega.{arith}
-use lib.Dec.{eqb, leb, ltb}
-use lib.ListN.{length, take, drop}
+use lib.Dec.{eqb, ltb}
+use lib.ListN.{length}
 use lib.Seq.{take-length}
 use borrow.Author.Tests.{eqb-true, eqb-false, ltb-true, ltb-false}
 use Rattle.basis.specs.Pick.{pick}
-use Rattle.basis.specs.Bytes.{part}
-use Rattle.basis.specs.Laid.{inFront}
-use Rattle.basis.proofs.Laid.{taken}
-use Rattle.rules.specs.Checksum.{sumOf}
-use Rattle.rules.specs.Layout.{Said, encode, pduLength}
-use Rattle.rules.specs.Reading.{framedIn, bodyOf}
-use Rattle.rules.specs.States.{isIdle, toStep, withQueue, sourceName, destinationName}
-use Rattle.rules.specs.Queues.{pending, anyInvalid, owing, free, pushAll, oldest, pop, piece, served, isMetadata}
-use Rattle.rules.specs.Put.{putSpec, putAnswer, putState, byAnswer}
-use Rattle.rules.specs.Deliver.{refused, accepted, sameTransaction, takesNak, nakOf, verdictOf, byVerdict, heard, byBody, byFrame, asked, requestsIn, deliverSpec}
-use Rattle.rules.specs.Step.{eofOwed, dueAt, dueOf, eofFor, repairOf, nextLength, sendingOf, closureBit, bytesFor, afterMetadata, afterData, onward, afterOf, changed, refusedStep, bytesDue, eventsOf, made as madeStep, stepSpec, stepBytes}
-use Rattle.rules.specs.Cancel.{mayCancel, userCancelled, cancelSpec}
+use Rattle.rules.specs.States.{isIdle, toStep, withQueue}
+use Rattle.rules.specs.Queues.{pending, oldest, pop, piece, served, isMetadata}
+use Rattle.rules.specs.Deliver.{refused, accepted, nakOf, verdictOf, byVerdict, asked, requestsIn, deliverSpec}
+use Rattle.rules.specs.Step.{eofOwed, dueAt, dueOf, eofFor, repairOf, nextLength, sendingOf, afterMetadata, afterData, onward, afterOf}
 use Rattle.rules.specs.Tiles.{tiles, answers}
-use Rattle.rules.specs.Runs.{Call, put, deliver, step, cancel, reset, Event, turned, began, took, made, ended, after, unless, pduIn, seen, LendsIn, requestsOfBody, requestsOfFrame, requests}
-use Rattle.rules.specs.Demand.{Transfer, saidOf, lastly}
-use Rattle.rules.specs.declared.LocalEntityConfig.{LocalEntityConfig}
-use Rattle.rules.specs.declared.PutRequest.{PutRequest}
-use Rattle.rules.specs.declared.EntityId.{EntityId}
-use Rattle.rules.specs.declared.TransactionSeqNum.{TransactionSeqNum}
-use Rattle.rules.specs.declared.Head.{Head}
+use Rattle.rules.specs.Runs.{Call, put, deliver, step, cancel, reset, Event, turned, took, made, ended, after, unless, seen, LendsIn, requests}
+use Rattle.rules.specs.Demand.{Transfer, lastly}
 use Rattle.rules.specs.declared.SegmentRequest.{SegmentRequest}
 use Rattle.rules.specs.declared.Frame.{Frame}
-use Rattle.rules.specs.declared.Framed.{Framed}
-use Rattle.rules.specs.declared.Framed.the-variants.{Malformed as NoFrame, Whole}
-use Rattle.rules.specs.declared.Body.{Body}
-use Rattle.rules.specs.declared.Body.the-variants.{Malformed as NoBody, CantProcess, Means}
 use Rattle.rules.specs.declared.Meaning.{Meaning}
 use Rattle.rules.specs.declared.Meaning.the-variants.{Finished, AckOfEof, Nak, KeepAlive}
-use Rattle.rules.specs.declared.Fixed.{Fixed}
-use Rattle.rules.specs.declared.Names.{Names}
 use Rattle.rules.specs.declared.FileParams.{FileParams}
 use Rattle.rules.specs.declared.Queue.{Queue}
 use Rattle.rules.specs.declared.State.{State}
@@ -53,15 +34,12 @@ use Rattle.rules.specs.declared.Due.the-variants.{CancelEof, Repair}
 use Rattle.rules.specs.declared.Sending.{Sending}
 use Rattle.rules.specs.declared.Sending.the-variants.{Nothing as NoPdu, Metadata as MetadataPdu, FileData, Eof as EofPdu, AckFinished}
 use Rattle.rules.specs.declared.Refusal.{Refusal}
-use Rattle.rules.specs.declared.Refusal.the-variants.{AlreadyBusy, UnexpectedPdu, InvalidNakPdu, RetransmitFull, OtherTransaction, FileChanged, OutTooSmall, Malformed, CantProcessPacketType}
-use Rattle.rules.specs.declared.Answer.{Answer}
-use Rattle.rules.specs.declared.Answer.the-variants.{Accepted, Refused}
+use Rattle.rules.specs.declared.Refusal.the-variants.{UnexpectedPdu}
 use Rattle.rules.specs.declared.Done.{Done}
-use Rattle.rules.specs.declared.Cancelled.{Cancelled}
 use Rattle.rules.proofs.Tiles.{tiles-zero, tiles-step, tiles-one, Within, within-more}
 use Rattle.rules.proofs.Pending.{pending-none, pending-first, Orderly, orderly-more, due-within, served-answers, orderly-served}
 use Rattle.rules.proofs.Outcomes.{put-by, cancel-by, delivered-by, Naks, nak-adds}
-use Rattle.rules.proofs.Emits.{encoded, bytesOf, Sends, encode-pos, Shows, step-shows}
+use Rattle.rules.proofs.Emits.{bytesOf, Sends, encode-pos, Shows, step-shows}
 
 -- ---- the invariant
 

@@ -2,25 +2,25 @@
 -- a used handler is as a fresh one. From `Kept`, and from what an accepted put knows of lengths.
 -- Assumes nothing.
 use mathlib.Core.Path.{_≡_, refl, sym, ap, _∙_}
-use mathlib.Core.Bool.{Bool, true, false, true≢false}
+use mathlib.Core.Bool.{Bool, true, false}
 use mathlib.Core.List.{List, [], _∷_, _++_, map}
-use Prim.Native.Nat.{ℕ, _+_, _-_, _*_, _≤_, _<_, min}
+use Prim.Native.Nat.{ℕ, _+_, _-_, _≤_, _<_}
 use native.Mathlib.Omega.{arith}
-use lib.Dec.{eqb, ltb}
+use lib.Dec.{ltb}
 use lib.ListN.{length, take, drop, length-take}
 use borrow.Author.Tests.{le-ltb, eq-eqb}
 use Rattle.basis.specs.Pick.{pick}
 use Rattle.basis.specs.Bytes.{part}
 use Rattle.rules.specs.Numbers.{H, F, C}
 use Rattle.rules.specs.Layout.{encodeHeard, nak, pduLength}
-use Rattle.rules.specs.Reading.{framedIn, frameIn, headIn, bodyIn, bodyOf, requestsFrom}
-use Rattle.rules.specs.PduLaws.{Fit, firstPair}
+use Rattle.rules.specs.Reading.{frameIn, headIn, bodyIn, bodyOf, requestsFrom}
+use Rattle.rules.specs.PduLaws.{firstPair}
 use Rattle.rules.specs.States.{isIdle, idle}
 use Rattle.rules.specs.Deliver.{requestsIn}
 use Rattle.rules.specs.Put.{entryOf, putSpec, putAnswer, putState, byAnswer}
 use Rattle.rules.specs.Step.{dueOf, sendingOf, bytesFor, changed, made as madeStep, stepSpec}
 use Rattle.rules.specs.Cancel.{newSpec}
-use Rattle.rules.specs.Runs.{Call, Event, trace, behind, Lends, BeforeEof, firstPass, requestsOfFrame, requestsOfBody, requests}
+use Rattle.rules.specs.Runs.{Event, trace, behind, firstPass, requestsOfFrame, requestsOfBody, requests}
 use Rattle.rules.specs.Demand.{Transfer, planned, lastly, carried, Live, ProgressMade, SecondPut, NakAsks}
 use Rattle.rules.specs.declared.Head.{Head}
 use Rattle.rules.specs.declared.Frame.{Frame}
@@ -32,15 +32,15 @@ use Rattle.rules.specs.declared.TransactionStep.{TransactionStep}
 use Rattle.rules.specs.declared.TransactionStep.the-variants.{SendingMetadata}
 use Rattle.rules.specs.declared.Sending.{Sending}
 use Rattle.rules.specs.declared.Sending.the-variants.{Nothing as NoPdu, Metadata as MetadataPdu, FileData, Eof as EofPdu, AckFinished}
-use Rattle.rules.specs.declared.Answer.{Answer}
-use Rattle.rules.specs.declared.Answer.the-variants.{Accepted, Refused}
+use Rattle.rules.specs.declared.Answer.the-variants.{Accepted}
 use Rattle.rules.proofs.Round.{length-encode}
 use Rattle.rules.proofs.Heard.{heard-read}
+use Rattle.rules.proofs.Outcomes.{answer-by, state-by}
 use Rattle.rules.proofs.Tiles.{sizes, sizes-tiles}
 use Rattle.rules.proofs.Emits.{bytesOf, same-bytes}
 use Rattle.rules.proofs.Hold.{Inv, Small, Does, due-does}
 use Rattle.rules.proofs.Stream.{Carries, carried-sizes, planned-within}
-use Rattle.rules.proofs.Begun.{Passed, put-passed, head-fit, names, room, range, carries, begun, begun-step}
+use Rattle.rules.proofs.Begun.{put-passed, head-fit, names, room, range, carries, begun, begun-step}
 use Rattle.rules.proofs.Demand.{Kept, kept, ending, first-cut}
 
 -- ---- every PDU before the EOF, and the EOF, fits n bytes
@@ -141,13 +141,6 @@ same-answer h c q a b S e = rw e
 same-state : (h : State) (c : LocalEntityConfig) (q : PutRequest) (a b : List ℕ) (S : ℕ) → putState h c q a b S ≡ putState (newSpec (h .number)) c q a b S
 unfolding putState newSpec idle
 same-state h c q a b S = refl
-
-answer-by : (s t : State) (x : Answer) → byAnswer s t x .answer ≡ x
-answer-by s t Accepted = refl
-answer-by s t (Refused r) = refl
-
-state-by : (s t : State) (x : Answer) → x ≡ Accepted → byAnswer s t x .state ≡ t
-state-by s t x e = rw e
 
 pub second-put : SecondPut
 unfolding putSpec

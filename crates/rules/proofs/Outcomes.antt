@@ -2,7 +2,7 @@
 -- Assumes nothing.
 use mathlib.Core.Path.{_≡_, refl}
 use mathlib.Core.Bool.{Bool, true, false, false≢true}
-use mathlib.Core.List.{List, [], _∷_, _++_}
+use mathlib.Core.List.{List, [], _++_}
 use Prim.Native.Nat.{ℕ, _-_, _≤_, _<_}
 use native.Mathlib.Omega.{arith}
 use lib.Dec.{ltb}
@@ -44,6 +44,13 @@ use Rattle.rules.proofs.Pending.{Orderly, answers-within, all-answers, 
 pub passed : (b : Bool) (x : Answer) (r : Refusal) → pick b x (Refused r) ≡ Accepted → (b ≡ true) × (x ≡ Accepted)
 passed true x r e = (refl, e)
 passed false x r e = absurd (let z : _≡_ {A = ℕ} 0 1 = cc in omega arith)
+
+pub answer-by : (s t : State) (x : Answer) → byAnswer s t x .answer ≡ x
+answer-by s t Accepted = refl
+answer-by s t (Refused r) = refl
+
+pub state-by : (s t : State) (x : Answer) → x ≡ Accepted → byAnswer s t x .state ≡ t
+state-by s t x e = rw e
 
 module _ (s : State) (P : Event → State → Type 0) (stays : P turned s) where
   -- accepted only where the handler is Idle

@@ -1,16 +1,16 @@
 -- The list that the queue's array stands for: what push, pop and a service do to it, and what a service answers.
 -- Each law is of lists: the first `count` elements of the array.
 -- Assumes nothing.
-use mathlib.Core.Path.{_≡_, refl, sym, ap, _∙_}
+use mathlib.Core.Path.{_≡_, refl, sym, _∙_}
 use mathlib.Core.Bool.{Bool, true, false, true≢false, false≢true}
 use mathlib.Core.List.{List, [], _∷_, _++_, append-assoc, append-nil}
-use Prim.Native.Nat.{ℕ, zero, suc, _+_, _-_, _≤_, _<_, min}
+use Prim.Native.Nat.{ℕ, zero, suc, _+_, _-_, _≤_, _<_}
 use native.Mathlib.Numerals.{add-one}
 use native.Mathlib.Omega.{arith}
 use lib.Dec.{eqb, leb, ltb}
 use lib.ListN.{length, getD, take, drop, set, length-append, length-drop, length-set}
 use lib.Seq.{take-append-le, take-suc-set}
-use borrow.Author.Tests.{eqb-true, leb-true, leb-false, ltb-true, ltb-false, lt-ltb, lt-leb, le-leb, ne-eqb}
+use borrow.Author.Tests.{eqb-true, leb-true, leb-false, ltb-true, ltb-false, lt-ltb, lt-leb, ne-eqb}
 use Rattle.basis.specs.Pick.{pick}
 use Rattle.rules.specs.States.{blank, emptyQueue}
 use Rattle.rules.specs.Queues.{pending, isMetadata, owes, invalid, anyInvalid, owing, free, push, pushOwed, pushAll, oldest, pop, piece, served}
@@ -18,7 +18,6 @@ use Rattle.rules.specs.Step.{repairOf}
 use Rattle.rules.specs.Tiles.{tiles, answer, answers}
 use Rattle.rules.specs.declared.SegmentRequest.{SegmentRequest}
 use Rattle.rules.specs.declared.Queue.{Queue}
-use Rattle.rules.specs.declared.Sending.{Sending}
 use Rattle.rules.specs.declared.Sending.the-variants.{Metadata as MetadataPdu, FileData}
 use Rattle.rules.proofs.Tiles.{tiles-zero, tiles-step, tiles-one, Within, within-append, within-more, within-first, within-rest, tiles-within, answers-append}
 

@@ -1,32 +1,27 @@
 -- A NAK's requests are answered whole, also after the EOF. `Loose` is what holds of the handler from an accepted put on, until a cancel, a reset or
 -- the next put; while something is owed and no other call is accepted, each step takes the head of what is owed.
 -- Assumes nothing.
-use mathlib.Core.Path.{_≡_, refl, sym, ap, ap₂, _∙_}
+use mathlib.Core.Path.{_≡_, refl, sym, ap, _∙_}
 use mathlib.Core.Bool.{Bool, true, false, true≢false}
 use mathlib.Core.List.{List, [], _∷_, _++_, map}
-use mathlib.Core.Option.{Option, none, some}
-use Prim.Native.Nat.{ℕ, zero, suc, _+_, _-_, _≤_, _<_, min}
+use mathlib.Core.Option.{Option, some}
+use Prim.Native.Nat.{ℕ, zero, suc, _+_, _≤_, _<_}
 use native.Mathlib.Omega.{arith}
 use lib.Dec.{eqb, leb, ltb}
-use lib.ListN.{length, take, length-append, length-map}
+use lib.ListN.{length, take, length-map}
 use lib.Seq.{take-all}
 use borrow.Author.Tests.{ltb-true, ltb-false}
 use Rattle.basis.specs.Pick.{pick}
 use Rattle.basis.proofs.Pick.{cases}
-use Rattle.rules.specs.Layout.{Pdu}
 use Rattle.rules.specs.Decoding.{decode}
-use Rattle.rules.specs.States.{isIdle, toStep, withQueue, emptyQueue, idle}
-use Rattle.rules.specs.Queues.{pending, oldest, isMetadata, piece, served}
-use Rattle.rules.specs.Put.{putSpec, putAnswer, putState, byAnswer}
+use Rattle.rules.specs.States.{isIdle, withQueue, emptyQueue, idle}
+use Rattle.rules.specs.Queues.{oldest, served}
+use Rattle.rules.specs.Put.{putSpec}
 use Rattle.rules.specs.Deliver.{refused, accepted, nakOf, verdictOf, byVerdict, movedBy, asked, requestsIn, deliverSpec}
-use Rattle.rules.specs.Step.{actionFor, faultDue, ackExpired, checkExpired, eofOwed, dueAt, dueOf, sendingOf, repairOf, nextLength, afterCancelEof, afterMetadata, afterData, afterEof, awaiting, onward, faultMarked, afterOf, changed, made as madeStep, stepSpec}
-use Rattle.rules.specs.Cancel.{mayCancel, userCancelled, cancelSpec}
-use Rattle.rules.specs.Tiles.{answers, weights}
+use Rattle.rules.specs.Step.{actionFor, faultDue, ackExpired, checkExpired, eofOwed, dueAt, dueOf, sendingOf, repairOf, nextLength, afterCancelEof, afterMetadata, afterData, afterEof, afterOf, changed, made as madeStep, stepSpec}
+use Rattle.rules.specs.Tiles.{answers}
 use Rattle.rules.specs.Runs.{Call, put, deliver, step, cancel, reset, Event, turned, began, took, made, ended, after, unless, seen, trace, behind, LendsIn, Lends, steps, NoPut, NoEnd, StepsOnly, requests, emitted}
 use Rattle.rules.specs.Demand.{Transfer, transferOf, meant, NakAnswered, BenchSheet}
-use Rattle.rules.specs.declared.LocalEntityConfig.{LocalEntityConfig}
-use Rattle.rules.specs.declared.PutRequest.{PutRequest}
-use Rattle.rules.specs.declared.EntityId.{EntityId}
 use Rattle.rules.specs.declared.TransactionSeqNum.{TransactionSeqNum}
 use Rattle.rules.specs.declared.SegmentRequest.{SegmentRequest}
 use Rattle.rules.specs.declared.Frame.{Frame}
@@ -40,17 +35,14 @@ use Rattle.rules.specs.declared.Queue.{Queue}
 use Rattle.rules.specs.declared.State.{State}
 use Rattle.rules.specs.declared.TransactionStep.{TransactionStep}
 use Rattle.rules.specs.declared.TransactionStep.the-variants.{Idle, SendingMetadata, SendingFileData, SendingEof, WaitingForEofAck, WaitingForFinished, Closing}
-use Rattle.rules.specs.declared.Eof.{Eof}
 use Rattle.rules.specs.declared.Due.{Due}
 use Rattle.rules.specs.declared.Due.the-variants.{CancelEof, Repair, Metadata, Data, NoErrorEof, EofAgain, FaultCancel, FaultIgnore, FaultAbandon, Close, Nothing}
 use Rattle.rules.specs.declared.Sending.{Sending}
 use Rattle.rules.specs.declared.Refusal.{Refusal}
-use Rattle.rules.specs.declared.Refusal.the-variants.{AlreadyBusy, UnexpectedPdu}
-use Rattle.rules.specs.declared.Answer.{Answer}
-use Rattle.rules.specs.declared.Answer.the-variants.{Accepted, Refused}
+use Rattle.rules.specs.declared.Refusal.the-variants.{UnexpectedPdu}
+use Rattle.rules.specs.declared.Answer.the-variants.{Accepted}
 use Rattle.rules.specs.declared.Done.{Done}
 use Rattle.rules.specs.declared.Stepped.{Stepped}
-use Rattle.rules.specs.declared.Cancelled.{Cancelled}
 use Rattle.rules.proofs.Tiles.{length-answers}
 use Rattle.rules.proofs.Pending.{pending-none, Orderly, orderly-empty, orderly-more, served-answers, orderly-served}
 use Rattle.rules.proofs.Outcomes.{put-by, cancel-by, delivered-by, Naks, nak-adds}

@@ -1,23 +1,22 @@
 -- The bytes of a transfer's PDUs, read by the other side: each decodes to what it says, the tiles join to the file, an EOF is known by its code.
 -- From the round trip, once for each kind of PDU, and the tiles' own predicate.
 -- Assumes nothing.
-use mathlib.Core.Path.{_≡_, refl, sym, ap, ap₂, _∙_}
-use mathlib.Core.Bool.{Bool, true, false}
-use mathlib.Core.List.{List, [], _∷_, _++_, map}
+use mathlib.Core.Path.{_≡_, refl, ap, ap₂}
+use mathlib.Core.Bool.{true, false}
+use mathlib.Core.List.{List, [], _∷_, map}
 use mathlib.Core.Option.{Option, none, some}
-use Prim.Native.Nat.{ℕ, _+_, _-_, _*_, _^_, _≤_, _<_, min}
+use Prim.Native.Nat.{ℕ, _+_, _-_, _*_, _^_, _≤_, _<_}
 use native.Mathlib.Omega.{arith}
-use lib.Dec.{eqb}
 use lib.ListN.{length, take, drop, length-take, length-drop}
 use lib.Seq.{take-add, drop-drop, take-all}
 use borrow.Author.Tests.{eq-eqb}
 use Rattle.rules.specs.Numbers.{F}
 use Rattle.rules.specs.Checksum.{sumOf}
-use Rattle.rules.specs.Layout.{Said, metadata, fileData, eof, Pdu}
+use Rattle.rules.specs.Layout.{fileData, Pdu}
 use Rattle.rules.specs.Decoding.{decode, isEofIn, fileDataOf}
-use Rattle.rules.specs.PduLaws.{Fit}
+use Rattle.rules.specs.PduLaws.{Fit, Sayable}
 use Rattle.rules.specs.Tiles.{tiles}
-use Rattle.rules.specs.Demand.{Transfer, saidOf, meant, planned, lastly, stretch, carried}
+use Rattle.rules.specs.Demand.{Transfer, meant, planned, lastly, stretch, carried}
 use Rattle.rules.specs.declared.Sending.{Sending}
 use Rattle.rules.specs.declared.Sending.the-variants.{Nothing as NoPdu, Metadata as MetadataPdu, FileData, Eof as EofPdu, AckFinished}
 use Rattle.rules.proofs.Round.{round-trip, file-data, eof-seen}
@@ -58,12 +57,15 @@ module _ (w : Transfer) (c : Carries w) where
   pub taken-length : (a n : ℕ) → a + n ≤ length (w .file) → length (take n (drop a (w .file))) ≡ n
   taken-length a n h = simp (length-take, length-drop) (omega arith)
 
-  data-read : (a n : ℕ) → a + n ≤ length (w .file) → n ≤ w .segment → decode (bytesOf w (FileData a n)) ≡ meant w (FileData a n)
-  data-read a n h l =
+  data-sayable : (a n : ℕ) → a + n ≤ length (w .file) → n ≤ w .segment → Sayable (w .head .large) (fileData a (take n (drop a (w .file))))
+  data-sayable a n h l =
       let e = taken-length a n h in
       let z = c .size in
       let y = c .segment in
-      round-trip (w .head) _ (c .fit) (omega arith, omega arith)
+      (omega arith, omega arith)
+
+  data-read : (a n : ℕ) → a + n ≤ length (w .file) → n ≤ w .segment → decode (bytesOf w (FileData a n)) ≡ meant w (FileData a n)
+  data-read a n h l = round-trip (w .head) _ (c .fit) (data-sayable a n h l)
 
   pub last-read : decode (bytesOf w (lastly w)) ≡ meant w (lastly w)
   last-read = round-trip (w .head) _ (c .fit) (omega arith, c .sum, c .size)
@@ -79,8 +81,7 @@ module _ (w : Transfer) (c : Carries w) where
   -- ---- the file data in them
 
   pub data-of : (a n : ℕ) → a + n ≤ length (w .file) → n ≤ w .segment → fileDataOf (bytesOf w (FileData a n)) ≡ some (a, take n (drop a (w .file)))
-  unfolding fileDataOf
-  data-of a n h l = rw (data-read a n h l)
+  data-of a n h l = file-data (w .head) a (take n (drop a (w .file))) (c .fit) (data-sayable a n h l)
 
   pub metadata-of : fileDataOf (bytesOf w MetadataPdu) ≡ none
   unfolding fileDataOf

@@ -1,17 +1,17 @@
 -- Laws of ceil and tiles: the first PDU and the rest, their number, that each begins where the one before ended. By induction on their number.
 -- Assumes nothing.
 use mathlib.Core.Path.{_≡_, refl, sym, ap, _∙_}
-use mathlib.Core.Bool.{Bool, true, false, true≢false}
+use mathlib.Core.Bool.{Bool, true, false}
 use mathlib.Core.List.{List, [], _∷_, _++_, append-assoc}
 use Prim.Native.Nat.{ℕ, zero, suc, _+_, _-_, _/_, _≤_, _<_, min}
 use native.Mathlib.Nat.{div-eq-of-lt, add-div-right}
 use native.Mathlib.Numerals.{add-one}
 use native.Mathlib.Omega.{arith}
-use lib.Dec.{leb, ltb}
+use lib.Dec.{leb}
 use lib.ListN.{length, length-append}
-use borrow.Author.Tests.{leb-true, leb-false, ltb-false}
+use borrow.Author.Tests.{leb-true, leb-false}
 use Rattle.basis.specs.Pick.{pick}
-use Rattle.rules.specs.Queues.{isMetadata, owes}
+use Rattle.rules.specs.Queues.{isMetadata}
 use Rattle.rules.specs.Tiles.{ceil, tilesOf, tiles, answer, answers, weight, weights}
 use Rattle.rules.specs.declared.SegmentRequest.{SegmentRequest}
 use Rattle.rules.specs.declared.Sending.{Sending}

@@ -14,7 +14,7 @@ use Rattle.basis.specs.Bytes.{Bytes}
 use Rattle.rules.specs.Fields.{wire}
 use Rattle.rules.specs.Numbers.{C, segmentLength}
 use Rattle.rules.specs.Checksum.{sumOf}
-use Rattle.rules.specs.Layout.{Said, metadata, fileData, eof, ackFinished, Pdu, Heard, nak, layoutHeard, encodeHeard}
+use Rattle.rules.specs.Layout.{Said, metadata, fileData, eof, ackFinished, Pdu, nak, layoutHeard, encodeHeard}
 use Rattle.rules.specs.Decoding.{withHead, decode, fileDataOf}
 use Rattle.rules.specs.PduLaws.{Fit, Hearable}
 use Rattle.rules.specs.States.{isIdle}
