@@ -11,7 +11,8 @@ use Rattle.rules.specs.Decoding.{fileDataOf}
 use Rattle.rules.specs.Put.{putSpec}
 use Rattle.rules.specs.Tiles.{answers, weights}
 use Rattle.rules.specs.Runs.{Call, Event, made, after, seen, trace, Lends, BeforeEof, requests}
-use Rattle.rules.specs.Demand.{Transfer, onto, BeginsAt, LiesBelow, Apart, ToldApart}
+use Rattle.rules.specs.Demand.{Transfer, onto}
+use Rattle.rules.specs.Companions.{BeginsAt, LiesBelow, Apart, ToldApart}
 use Rattle.rules.specs.declared.State.{State}
 use Rattle.rules.specs.declared.Sending.{Sending}
 use Rattle.rules.specs.declared.Sending.the-variants.{Nothing as NoPdu, Metadata as MetadataPdu, FileData, Eof as EofPdu, AckFinished}

@@ -183,7 +183,7 @@ plan-ends w Closing p q l h = absurd h
 pub ending : (w : Transfer) (t : State) → Inv w t → Ends w (planOf w t) (t .file .progress)
 ending w t i = plan-ends w (t .step) (t .file .progress) (pending (t .queue)) (i .pos) (i .here)
 
-plan-pos : (w : Transfer) (t : State) → Inv w t → 0 < length (planOf w t)
+pub plan-pos : (w : Transfer) (t : State) → Inv w t → 0 < length (planOf w t)
 plan-pos w t i =
     let r = ending w t i in
     let l = simp length-append at (ap length (r .split)) in
@@ -201,17 +201,17 @@ length-owed L (ended ∷ es) = length-owed L es
 pub at-start : (w : Transfer) (s : State) → Inv w s → s .step ≡ SendingMetadata → (pending (s .queue) ≡ []) × (s .file .progress ≡ 0)
 at-start w s i a = rw a at (i .here)
 
+pub plan-is : (w : Transfer) (s : State) → Inv w s → s .step ≡ SendingMetadata → planOf w s ≡ planned w ++ lastly w ∷ []
+plan-is w s i a = rw (a, at-start w s i a .1, sub-zero (length (w .file)))
+
 -- ---- before the EOF, from the state that a put made
 
 module _ (w : Transfer) (c : Carries w) (s : State) (i : Inv w s) (a : s .step ≡ SendingMetadata) (es : List Event) (t : State) (k : Kept w s es t) where
-  plan-is : planOf w s ≡ planned w ++ lastly w ∷ []
-  plan-is = rw (a, at-start w s i a .1, sub-zero (length (w .file)))
-
   -- what is sent, and what is still to come, besides repairs
   first-pass : firstPass (w .segment) 0 es ++ map (bytesOf w) (planOf w t) ≡ map (bytesOf w) (planned w ++ lastly w ∷ [])
   first-pass =
       let z : length (owedBy w s) ≡ 0 = ap length (none-owed w s (at-start w s i a .0)) in
-      (rw z at (k .first)) ∙ ap (map (bytesOf w)) plan-is
+      (rw z at (k .first)) ∙ ap (map (bytesOf w)) (plan-is w s i a)
 
   -- without the EOF
   pub first-cut : (r : List Sending) → planOf w t ≡ r ++ lastly w ∷ [] → firstPass (w .segment) 0 es ++ map (bytesOf w) r ≡ map (bytesOf w) (planned w)
@@ -229,7 +229,7 @@ module _ (w : Transfer) (c : Carries w) (s : State) (i : Inv w s) (a : s .step �
   total =
       let kc = k .counted in
       let z : length (owedBy w s) ≡ 0 = ap length (none-owed w s (at-start w s i a .0)) in
-      let lp = simp length-append at (ap length plan-is) in
+      let lp = simp length-append at (ap length (plan-is w s i a)) in
       let lt = length-tiles (w .segment) 0 (length (w .file)) in
       omega arith
 

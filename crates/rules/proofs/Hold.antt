@@ -291,7 +291,7 @@ busy S Closing p q h = refl
 pub not-idle : (w : Transfer) (s : State) → Inv w s → isIdle (s .step) ≡ false
 not-idle w s i = busy (length (w .file)) (s .step) (s .file .progress) (pending (s .queue)) (i .here)
 
-does-some : {w : Transfer} {q : List SegmentRequest} {k : TransactionStep} {p : ℕ} (d : Sending) (t : State) → Does w q k p d t → 0 < length (bytesOf w d)
+pub does-some : {w : Transfer} {q : List SegmentRequest} {k : TransactionStep} {p : ℕ} (d : Sending) (t : State) → Does w q k p d t → 0 < length (bytesOf w d)
 does-some {w} x y (Does.serves-one d t a b c e f g) = small-some w d c
 does-some {w} x y (Does.advances d t a b c e f g) = small-some w d e
 does-some {w} x y (Does.closes t a b) = encode-pos (w .head) _

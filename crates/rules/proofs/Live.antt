@@ -1,27 +1,31 @@
 -- The third demand's companions before the EOF: no step is refused that has the packet maximum's room, progress is what the first pass has carried,
 -- a used handler is as a fresh one. From `Kept`, and from what an accepted put knows of lengths.
 -- Assumes nothing.
-use mathlib.Core.Path.{_≡_, refl, sym, ap, _∙_}
+use mathlib.Core.Path.{_≡_, refl, sym, ap, ap₂, _∙_}
 use mathlib.Core.Bool.{Bool, true, false}
-use mathlib.Core.List.{List, [], _∷_, _++_, map}
+use mathlib.Core.List.{List, [], _∷_, _++_, map, cons≢nil, map-append}
+use mathlib.Core.Option.{Option}
 use Prim.Native.Nat.{ℕ, _+_, _-_, _≤_, _<_}
 use native.Mathlib.Omega.{arith}
 use lib.Dec.{ltb}
-use lib.ListN.{length, take, drop, length-take}
+use lib.ListN.{length, take, drop, length-take, length-append}
 use borrow.Author.Tests.{le-ltb, eq-eqb}
 use Rattle.basis.specs.Pick.{pick}
 use Rattle.basis.specs.Bytes.{part}
 use Rattle.rules.specs.Numbers.{H, F, C}
-use Rattle.rules.specs.Layout.{encodeHeard, nak, pduLength}
+use Rattle.rules.specs.Layout.{encodeHeard, nak, pduLength, Pdu}
 use Rattle.rules.specs.Reading.{frameIn, headIn, bodyIn, bodyOf, requestsFrom}
 use Rattle.rules.specs.PduLaws.{firstPair}
 use Rattle.rules.specs.States.{isIdle, idle}
 use Rattle.rules.specs.Deliver.{requestsIn}
 use Rattle.rules.specs.Put.{entryOf, putSpec, putAnswer, putState, byAnswer}
-use Rattle.rules.specs.Step.{dueOf, sendingOf, bytesFor, changed, made as madeStep, stepSpec}
+use Rattle.rules.specs.Step.{dueOf, sendingOf, bytesFor, changed, made as madeStep, stepSpec, afterOf, stepBytes}
 use Rattle.rules.specs.Cancel.{newSpec}
-use Rattle.rules.specs.Runs.{Event, trace, behind, firstPass, requestsOfFrame, requestsOfBody, requests}
-use Rattle.rules.specs.Demand.{Transfer, planned, lastly, carried, Live, ProgressMade, SecondPut, NakAsks}
+use Rattle.rules.specs.Runs.{Event, trace, behind, firstPass, requestsOfFrame, requestsOfBody, requests, Call, put, deliver, step, cancel, reset, turned, made, unless, pduIn, seen, emitted}
+use Rattle.rules.specs.Demand.{Transfer, planned, lastly, transferOf, meant}
+use Rattle.rules.specs.Companions.{carried, Live, ProgressMade, SecondPut, NakAsks, PlainSteps, PlainRun}
+use Rattle.rules.specs.Queues.{pending}
+use Rattle.rules.specs.Decoding.{decode}
 use Rattle.rules.specs.declared.Head.{Head}
 use Rattle.rules.specs.declared.Frame.{Frame}
 use Rattle.rules.specs.declared.LocalEntityConfig.{LocalEntityConfig}
@@ -36,12 +40,12 @@ use Rattle.rules.specs.declared.Answer.the-variants.{Accepted}
 use Rattle.rules.proofs.Round.{length-encode}
 use Rattle.rules.proofs.Heard.{heard-read}
 use Rattle.rules.proofs.Outcomes.{answer-by, state-by}
-use Rattle.rules.proofs.Tiles.{sizes, sizes-tiles}
-use Rattle.rules.proofs.Emits.{bytesOf, same-bytes}
-use Rattle.rules.proofs.Hold.{Inv, Small, Does, due-does}
-use Rattle.rules.proofs.Stream.{Carries, carried-sizes, planned-within}
-use Rattle.rules.proofs.Begun.{put-passed, head-fit, names, room, range, carries, begun, begun-step}
-use Rattle.rules.proofs.Demand.{Kept, kept, ending, first-cut}
+use Rattle.rules.proofs.Tiles.{sizes, sizes-tiles, length-tiles}
+use Rattle.rules.proofs.Emits.{bytesOf, same-bytes, Shows, step-shows}
+use Rattle.rules.proofs.Hold.{Inv, Small, Does, due-does, planOf, none-owed, does-some, DoesFrom, not-idle}
+use Rattle.rules.proofs.Stream.{Carries, carried-sizes, planned-within, all-read, last-read}
+use Rattle.rules.proofs.Begun.{put-passed, head-fit, names, room, range, carries, begun, begun-step, Passed}
+use Rattle.rules.proofs.Demand.{Kept, kept, ending, first-cut, plan-pos, at-start, plan-is}
 
 -- ---- every PDU before the EOF, and the EOF, fits n bytes
 
@@ -87,21 +91,98 @@ step-live w s i n z expired m l =
     let b : ltb m (length (bytesFor s (w .file) d)) ≡ false = le-ltb m (length (bytesFor s (w .file) d)) (omega arith) in
     rw (unchanged w s i, b)
 
+wide : (h : State) (c : LocalEntityConfig) (q : PutRequest) (source destination file : List ℕ) → Passed h c q source destination (length file)
+    → Wide (transferOf c q (h .number) source destination file) (entryOf c (q .destination .1) .maxpacket)
+wide h c q source destination file p =
+    let y = names h c q source destination file p in
+    record {
+      source = y .0 .0;
+      destination = y .1 .0;
+      metadata-fits = room h c q source destination file p;
+      data-fits = range h c q source destination file p .2;
+    }
+
 pub live : Live
 live h c q source destination file a cs l f expired m n =
     let p = put-passed h c q source destination (length file) a in
     let s = putSpec h c q source destination (length file) .state in
     let e = entryOf c (q .destination .1) in
     let k = kept _ (head-fit c e q (h .number) (length file) (p .ids)) cs s (begun h c q source destination file p) l f in
-    let y = names h c q source destination file p in
-    step-live _ (behind cs s) (k .inv) (e .maxpacket)
-    (record {
-      source = y .0 .0;
-      destination = y .1 .0;
-      metadata-fits = room h c q source destination file p;
-      data-fits = range h c q source destination file p .2;
-    })
-    expired m n
+    step-live _ (behind cs s) (k .inv) (e .maxpacket) (wide h c q source destination file p) expired m n
+
+-- ---- a plain run
+
+step-made : (w : Transfer) (s : State) → Inv w s → (n : ℕ) → Wide w n → (expired : Bool) (out : List ℕ) → n ≤ length out → seen (step (w .file) expired out) s ≡ turned → ⊥
+step-made w s i n z expired out l e =
+    let a = step-live w s i n z expired (length out) l in
+    let r = stepSpec s (w .file) expired (length out) in
+    let b : unless (r .answer) (made (pduIn (r .length) (stepBytes s (w .file) expired out))) ≡ made (pduIn (r .length) (stepBytes s (w .file) expired out)) = rw a in
+    let y : _≡_ {A = ℕ} 0 1 = cc in
+    omega arith
+
+no-calls : (cs : List Call) → length cs ≡ 0 → cs ≡ []
+no-calls [] e = refl
+no-calls (c ∷ cs) e = absurd (omega arith)
+
+plain :
+    (w : Transfer) (n : ℕ) → Wide w n → (cs : List Call) (s : State) → Inv w s → pending (s .queue) ≡ [] → PlainSteps (w .file) n cs
+    → length cs ≡ length (planOf w s) → emitted (trace cs s) ≡ map (bytesOf w) (planOf w s)
+unfolding trace emitted
+plain w n z [] s i q f e = let l = plan-pos w s i in absurd (omega arith)
+plain w n z (put c r a b S ∷ cs) s i q f e = absurd f
+plain w n z (deliver bytes ∷ cs) s i q f e = absurd f
+plain w n z (cancel source number ∷ cs) s i q f e = absurd f
+plain w n z (reset ∷ cs) s i q f e = absurd f
+plain w n z (step lent expired out ∷ cs) s i q f e =
+    rw (f .0) (go _ _ (step-shows w s (i .sends) (not-idle w s i) (w .file) expired out (λ l. refl)) (step-made w s i n z expired out (f .1))
+    (λ t j p k. plain w n z cs t j p (f .2) k))
+  where
+    x : Sending
+    x = sendingOf s (w .file) (dueOf s expired)
+
+    u : State
+    u = afterOf s (w .file) (dueOf s expired)
+
+    next : (d : Sending) (t : State) → DoesFrom w s d t
+        → ((t : State) → Inv w t → pending (t .queue) ≡ [] → length cs ≡ length (planOf w t) → emitted (trace cs t) ≡ map (bytesOf w) (planOf w t))
+        → bytesOf w d ∷ emitted (trace cs t) ≡ map (bytesOf w) (planOf w s)
+    next y v (Does.serves-one d t o p k m g j) ih = absurd (cons≢nil (sym o ∙ none-owed w s q))
+    next y v (Does.advances d t o r p k m j) ih =
+        let lp = ap length p in
+        rw p (ap (λ (l : List (List ℕ)). bytesOf w d ∷ l) (ih t j r (omega arith)))
+    next y v (Does.closes t o p) ih =
+        let lp = ap length p in
+        rw (p, no-calls cs (omega arith))
+
+    go : (e : Event) (t : State) → Shows w s x u e t → (e ≡ turned → ⊥)
+        → ((t : State) → Inv w t → pending (t .queue) ≡ [] → length cs ≡ length (planOf w t) → emitted (trace cs t) ≡ map (bytesOf w) (planOf w t))
+        → emitted (e ∷ trace cs t) ≡ map (bytesOf w) (planOf w s)
+    go e t Shows.refuses y ih = absurd (y refl)
+    go e t (Shows.shows d g) y ih =
+        let k = due-does w s i expired in
+        rw (g (does-some x u k)) (next x u k ih)
+
+-- the whole stream, read
+stream-read : (w : Transfer) → Carries w → map decode (map (bytesOf w) (planned w ++ lastly w ∷ [])) ≡ map (meant w) (planned w ++ lastly w ∷ [])
+stream-read w c =
+    ap (map decode) (map-append (bytesOf w) (planned w) (lastly w ∷ []))
+    ∙ map-append decode (map (bytesOf w) (planned w)) (bytesOf w (lastly w) ∷ [])
+    ∙ ap₂ (λ (a b : List (Option Pdu)). a ++ b) (all-read w c (planned w) (planned-within w c)) (ap (λ (a : Option Pdu). a ∷ []) (last-read w c))
+    ∙ sym (map-append (meant w) (planned w) (lastly w ∷ []))
+
+pub plain-run : PlainRun
+plain-run h c q source destination file b z a cs k e =
+    let p = put-passed h c q source destination (length file) a in
+    let s = putSpec h c q source destination (length file) .state in
+    let v = carries h c q source destination file p b z in
+    let w = transferOf c q (h .number) source destination file in
+    let i = begun h c q source destination file p in
+    let t = begun-step h c q source destination file p in
+    let plan = plan-is w s i t in
+    let lp = simp length-append at (ap length plan) in
+    let lt = length-tiles (w .segment) 0 (length file) in
+    let m = plain w (entryOf c (q .destination .1) .maxpacket) (wide h c q source destination file p) cs s i (at-start w s i t .0) k (omega arith) in
+    ap (map decode) (m ∙ ap (map (bytesOf w)) plan) ∙ stream-read w v
 
 -- ---- progress
 

@@ -21,7 +21,8 @@ use Rattle.rules.specs.Deliver.{refused, accepted, nakOf, verdictOf, byV
 use Rattle.rules.specs.Step.{actionFor, faultDue, ackExpired, checkExpired, eofOwed, dueAt, dueOf, sendingOf, repairOf, nextLength, afterCancelEof, afterMetadata, afterData, afterEof, afterOf, changed, made as madeStep, stepSpec}
 use Rattle.rules.specs.Tiles.{answers}
 use Rattle.rules.specs.Runs.{Call, put, deliver, step, cancel, reset, Event, turned, began, took, made, ended, after, unless, seen, trace, behind, LendsIn, Lends, steps, NoPut, NoEnd, StepsOnly, requests, emitted}
-use Rattle.rules.specs.Demand.{Transfer, transferOf, meant, NakAnswered, BenchSheet}
+use Rattle.rules.specs.Demand.{Transfer, transferOf, meant}
+use Rattle.rules.specs.Companions.{NakAnswered, BenchSheet}
 use Rattle.rules.specs.declared.TransactionSeqNum.{TransactionSeqNum}
 use Rattle.rules.specs.declared.SegmentRequest.{SegmentRequest}
 use Rattle.rules.specs.declared.Frame.{Frame}

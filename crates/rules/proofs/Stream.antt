@@ -16,7 +16,8 @@ use Rattle.rules.specs.Layout.{fileData, Pdu}
 use Rattle.rules.specs.Decoding.{decode, isEofIn, fileDataOf}
 use Rattle.rules.specs.PduLaws.{Fit, Sayable}
 use Rattle.rules.specs.Tiles.{tiles}
-use Rattle.rules.specs.Demand.{Transfer, meant, planned, lastly, stretch, carried}
+use Rattle.rules.specs.Demand.{Transfer, meant, planned, lastly, stretch}
+use Rattle.rules.specs.Companions.{carried}
 use Rattle.rules.specs.declared.Sending.{Sending}
 use Rattle.rules.specs.declared.Sending.the-variants.{Nothing as NoPdu, Metadata as MetadataPdu, FileData, Eof as EofPdu, AckFinished}
 use Rattle.rules.proofs.Round.{round-trip, file-data, eof-seen}

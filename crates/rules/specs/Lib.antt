@@ -17,4 +17,5 @@ pub mod Calls
 pub mod Tiles
 pub mod Runs
 pub mod Demand
+pub mod Companions
 pub mod ChecksumCases
