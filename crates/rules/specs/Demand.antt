@@ -1,4 +1,6 @@
 -- The third demand, on bytes: which PDUs leave after an accepted put, in which step the EOF leaves and what it says. Proof: proofs/Demand.antt.
+-- To read it: (x : A) → .. is "for every x", P → Q "if P, then Q", P × Q "P and Q", P ↔ Q "exactly if"; x .f is the field f of x;
+-- x ∷ l is a list that begins with x, ++ joins two; `map f l` is f of each.
 -- Assumes nothing.
 use mathlib.Core.Path.{_≡_}
 use mathlib.Core.Logic.{_↔_}
@@ -105,21 +107,28 @@ stretch at (b ∷ bs) = placed (fileDataOf b) at (stretch (onto (fileDataOf b) a
 abbrev pub eofStep : Transfer → List Event → ℕ
 eofStep w es = 2 + ceil (length (w .file)) (w .segment) + R (w .segment) es
 
--- Before the EOF: its step is still to come; each unrefused step has emitted one PDU; those not owed to a NAK are, read, the first of the metadata
--- and the file's tiles; those owed are, read, the first of the answers to the requests, in order. No other put was accepted.
+-- before the EOF
 pub record SoFar (w : Transfer) (es : List Event) : Type 0 where
+  -- the EOF's step is still to come
   pub early : steps es < eofStep w es
+  -- each unrefused step has emitted one PDU
   pub one-each : steps es ≡ length (firstPass (w .segment) 0 es) + length (repairs (w .segment) 0 es)
+  -- those not owed to a NAK, read by the other side, are the first of the metadata and the file's tiles
   pub tiling : Front (map decode (firstPass (w .segment) 0 es)) (map (meant w) (planned w))
+  -- those owed, read, are the first of the answers to the requests, in order
   pub answering : Front (map decode (repairs (w .segment) 0 es)) (map (meant w) (owed (w .segment) es))
+  -- no other put was accepted
   pub no-put : NoPut es
 
--- When the EOF d leaves: read, it says NoError, the file's checksum and S; metadata and tiles are all sent, and their data joined are the file;
--- all that is owed is sent.
+-- when the EOF d leaves
 pub record AtEof (w : Transfer) (es : List Event) (d : List ℕ) : Type 0 where
+  -- read, it says NoError, the file's checksum and S
   pub says : decode d ≡ meant w (lastly w)
+  -- the metadata and the tiles have all left
   pub tiled : map decode (firstPass (w .segment) 0 es) ≡ map (meant w) (planned w)
+  -- and their data, each piece behind the one before, are the file
   pub bytes : stretch 0 (firstPass (w .segment) 0 es) ≡ some (w .file)
+  -- all that is owed has left
   pub answered : map decode (repairs (w .segment) 0 es) ≡ map (meant w) (owed (w .segment) es)
 
 -- The next unrefused step emits d: an EOF exactly if the step has that number.
@@ -127,8 +136,9 @@ pub record AtStep (w : Transfer) (es : List Event) (d : Option (List ℕ)) : Typ
   pub when : (isEof d ≡ true) ↔ (suc (steps es) ≡ eofStep w es)
   pub what : isEof d ≡ true → (b : List ℕ) × (d ≡ some b) × AtEof w es b
 
--- PROMISE third-demand: after an accepted put of a file on any handler, over any calls whose steps lend this file, at every place of the run
--- with no EOF before it and no cancel or reset.
+-- PROMISE third-demand: after an accepted put of a file on any handler, fresh or used, over any calls whose steps lend this file: at every place of
+-- the run with no EOF before it and no cancel or reset (es before it, fs behind it), what stands above. `decode` is the other side's reading, by
+-- document 01's layouts and not by the writer's definitions.
 abbrev pub ThirdDemand : Type 0
 ThirdDemand =
     (h : State) (c : LocalEntityConfig) (q : PutRequest) (source destination file : List ℕ)

@@ -1,5 +1,5 @@
 -- A run: calls of any kind made one after another, what the host sees of each, and what can be counted from that alone.
--- Nothing below the line "what can be counted" looks into the handler.
+-- From the heading "what can be counted" on, nothing looks into the handler.
 -- Assumes nothing.
 use mathlib.Core.Path.{_≡_}
 use mathlib.Core.Bool.{Bool, false}
@@ -41,14 +41,13 @@ pub data Call : Type 0 where
   cancel : (source : EntityId) → (number : TransactionSeqNum) → Call
   reset : Call
 
--- what the host sees of a call: it was refused, or a cancel answered no; a put was accepted; a delivery was accepted; a step was not refused,
--- and put a PDU's bytes into the out buffer or none; a cancel answered yes, or a reset
+-- what the host sees of a call
 pub data Event : Type 0 where
-  turned : Event
-  began : Event
-  took : (bytes : List ℕ) → Event
-  made : (pdu : Option (List ℕ)) → Event
-  ended : Event
+  turned : Event  -- refused, or a cancel that answers no
+  began : Event  -- an accepted put
+  took : (bytes : List ℕ) → Event  -- an accepted delivery
+  made : (pdu : Option (List ℕ)) → Event  -- an unrefused step: the PDU's bytes in the out buffer, or none
+  ended : Event  -- a cancel that answers yes, or a reset
 
 -- the state after a call
 abbrev pub after : Call → State → State
@@ -58,6 +57,7 @@ after (step lent expired out) s = stepSpec s lent expired (length out) .state
 after (cancel source number) s = cancelSpec s source number .state
 after reset s = resetSpec s
 
+-- what an accepted call shows; a refused one is turned
 abbrev pub unless : Answer → Event → Event
 unless Accepted e = e
 unless (Refused r) e = turned
