@@ -16,3 +16,8 @@ pub mod Step
 pub mod Cancel
 pub mod Calls
 pub mod PduCases
+pub mod Tiles
+pub mod Runs
+pub mod Demand
+pub mod Companions
+pub mod ChecksumCases
