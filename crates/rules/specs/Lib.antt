@@ -20,4 +20,3 @@ pub mod Tiles
 pub mod Runs
 pub mod Demand
 pub mod Companions
-pub mod ChecksumCases
