@@ -14,3 +14,4 @@ pub mod Deliver
 pub mod Step
 pub mod Cancel
 pub mod Calls
+pub mod Cases
