@@ -15,3 +15,4 @@ pub mod Step
 pub mod Cancel
 pub mod Calls
 pub mod Cases
+pub mod OneOutcome
