@@ -16,3 +16,4 @@ pub mod Cancel
 pub mod Calls
 pub mod Cases
 pub mod OneOutcome
+pub mod ChecksumCases

@@ -1,29 +1,24 @@
+-- `byte_of`: above the eighth byte of a 64-bit number there is none.
+-- Assumes nothing.
 use mathlib.Core.Path.{sym}
 use native.Mathlib.Omega.{arith}
 use Rattle.basis.proofs.Bytes.{high-byte}
 use borrow.Author.Needs.{needs}
 use Rattle.basis.proofs.byte_of.Statement.{statement}
 use Rattle.basis.proofs.byte_of.Tie as tie
-use Rattle.basis.proofs.byte_of.Reads as reads
-use Rattle.basis.proofs.byte_of.Lts as lts
 
--- src/lib.rt:29:9
 returns : tie.Need-returns
 returns c = sym (high-byte _ _ (omega arith) (omega arith))
 
--- src/lib.rt:31:13
 mul-result : tie.Need-mul-result
 mul-result c = search needs
 
--- src/lib.rt:31:7
 shr-result : tie.Need-shr-result
 shr-result c = search needs
 
--- src/lib.rt:31:5
 cast-result : tie.Need-cast-result
 cast-result c = search needs
 
--- src/lib.rt:25:1
 returns-2 : tie.Need-returns-2
 returns-2 c = search needs
 

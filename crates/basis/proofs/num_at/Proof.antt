@@ -1,3 +1,5 @@
+-- `num_at`: a part cut at the end of the slice is the part.
+-- Assumes nothing.
 use mathlib.Core.Path.{_∙_}
 use native.Mathlib.Omega.{arith}
 use lib.Pow.{pow-pos}
@@ -5,48 +7,34 @@ use Rattle.basis.proofs.Bytes.{num-past, num-part, part-le}
 use borrow.Author.Needs.{needs}
 use Rattle.basis.proofs.num_at.Statement.{statement}
 use Rattle.basis.proofs.num_at.Tie as tie
-use Rattle.basis.proofs.num_at.Reads as reads
-use Rattle.basis.proofs.num_at.Lts as lts
-use Rattle.basis.proofs.lesser.Reads as lesser-reads
-use Rattle.basis.proofs.num.Reads as num-reads
 
--- src/lib.rt:87:9
 returns : tie.Need-returns
 returns c = (num-past _ _ _ (c .if1 .taken), pow-pos _)
 
--- src/lib.rt:89:25
 lesser-requires : tie.Need-lesser-requires
 lesser-requires c κs = search needs
 
--- src/lib.rt:89:39
 sub-lesser : tie.Need-sub-lesser
 sub-lesser c = search needs
 
--- src/lib.rt:89:18
 lesser-requires-2 : tie.Need-lesser-requires-2
 lesser-requires-2 c κs = search needs
 
--- src/lib.rt:89:13
 add-e : tie.Need-add-e
 add-e c = search needs
 
--- src/lib.rt:90:9
 sub-num : tie.Need-sub-num
 sub-num c = search needs
 
--- src/lib.rt:90:9
 part-num-start : tie.Need-part-num-start
 part-num-start c = search needs
 
--- src/lib.rt:90:9
 part-num-end : tie.Need-part-num-end
 part-num-end c = search needs
 
--- src/lib.rt:90:5
 num-requires : tie.Need-num-requires
 num-requires c κs = search needs
 
--- src/lib.rt:83:1
 returns-2 : tie.Need-returns-2
 returns-2 c = let e = rw (c .before .before .before .lesser .ensures) at (c .before .before .lesser2 .ensures) in (c .num .ensures .0 ∙ num-part _ _ _ _ e, part-le _ _ _ _ _ e (c .num .ensures .1))
 

@@ -1,3 +1,5 @@
+-- `put_be`: what is laid so far, and the bytes still to lay over it, are the whole number laid.
+-- Assumes nothing.
 use mathlib.Core.Path.{_≡_, _∙_, sym}
 use Prim.Native.Nat.{_≤_, _+_}
 use lib.ListN.{length}
@@ -7,9 +9,6 @@ use Rattle.basis.proofs.Laid.{be-step, be-done}
 use borrow.Author.Needs.{needs}
 use Rattle.basis.proofs.put_be.Statement.{statement}
 use Rattle.basis.proofs.put_be.Tie as tie
-use Rattle.basis.proofs.put_be.Reads as reads
-use Rattle.basis.proofs.put_be.Lts as lts
-use Rattle.basis.proofs.byte_of.Reads as byte-of-reads
 
 abbrev Inv-loop : tie.InvT-loop
 Inv-loop out₀ at w v k₀ p₀ out k p = (k ≤ w) × (p + k ≡ at + w) × (length out ≡ length out₀) × (laid out p (be k v) ≡ laid out₀ at (be w v))
@@ -17,39 +16,30 @@ Inv-loop out₀ at w v k₀ p₀ out k p = (k ≤ w) × (p + k ≡ at + w) × (l
 abbrev μ-loop : tie.MeasureT-loop
 μ-loop out₀ at w v k₀ p₀ out k p = k
 
--- src/lib.rt:41:5
 loop-holds : tie.Need-loop-holds Inv-loop μ-loop
 loop-holds c = search needs
 
--- src/lib.rt:42:9
 sub-k : tie.Need-sub-k Inv-loop μ-loop
 sub-k c = search needs
 
--- src/lib.rt:43:18
 byte-of-requires : tie.Need-byte-of-requires Inv-loop μ-loop
 byte-of-requires c κs = search needs
 
--- src/lib.rt:43:9
 slice-write-out : tie.Need-slice-write-out Inv-loop μ-loop
 slice-write-out c = search needs
 
--- src/lib.rt:44:9
 add-p : tie.Need-add-p Inv-loop μ-loop
 add-p c = search needs
 
--- src/lib.rt:41:5
 loop-less : tie.Need-loop-less Inv-loop μ-loop
 loop-less c = search needs
 
--- src/lib.rt:41:5
 loop-again : tie.Need-loop-again Inv-loop μ-loop
 loop-again c = (search needs, search needs, search needs, rw (c .byte-of .ensures) (be-step _ _ _ _ (c .before .loop-test .taken)) ∙ c .before .before .loop .inv .3)
 
--- src/lib.rt:35:1
 same-length : tie.Need-same-length Inv-loop μ-loop
 same-length c = search needs
 
--- src/lib.rt:35:1
 returns : tie.Need-returns Inv-loop μ-loop
 returns c = (search needs, sym (be-done _ _ _ _ (c .loop-test .left)) ∙ c .before .loop .inv .3)
 

@@ -1,3 +1,5 @@
+-- `put_bytes`: what is laid so far, and the rest of the run, are the whole run laid.
+-- Assumes nothing.
 use mathlib.Core.Path.{_≡_, _∙_, sym}
 use Prim.Native.Nat.{_≤_, _+_, _-_}
 use native.Mathlib.Nat.{add-zero}
@@ -7,8 +9,6 @@ use Rattle.basis.proofs.Laid.{run-step, run-done}
 use borrow.Author.Needs.{needs}
 use Rattle.basis.proofs.put_bytes.Statement.{statement}
 use Rattle.basis.proofs.put_bytes.Tie as tie
-use Rattle.basis.proofs.put_bytes.Reads as reads
-use Rattle.basis.proofs.put_bytes.Lts as lts
 
 abbrev Inv-loop : tie.InvT-loop
 Inv-loop out₀ at s i₀ out i = (i ≤ length s) × (length out ≡ length out₀) × (laid out (at + i) (drop i s) ≡ laid out₀ at s)
@@ -16,43 +16,33 @@ Inv-loop out₀ at s i₀ out i = (i ≤ length s) × (length out ≡ length out
 abbrev μ-loop : tie.MeasureT-loop
 μ-loop out₀ at s i₀ out i = length s - i
 
--- src/lib.rt:55:5
 loop-holds : tie.Need-loop-holds Inv-loop μ-loop
 loop-holds c = (search needs, search needs, simp add-zero)
 
--- src/lib.rt:56:23
 shared-slice-read-out : tie.Need-shared-slice-read-out Inv-loop μ-loop
 shared-slice-read-out c = search needs
 
--- src/lib.rt:56:13
 add-out : tie.Need-add-out Inv-loop μ-loop
 add-out c = search needs
 
--- src/lib.rt:56:9
 slice-write-out : tie.Need-slice-write-out Inv-loop μ-loop
 slice-write-out c = search needs
 
--- src/lib.rt:57:9
 add-i : tie.Need-add-i Inv-loop μ-loop
 add-i c = search needs
 
--- src/lib.rt:55:5
 loop-less : tie.Need-loop-less Inv-loop μ-loop
 loop-less c = search needs
 
--- src/lib.rt:55:5
 loop-again : tie.Need-loop-again Inv-loop μ-loop
 loop-again c = (search needs, search needs, run-step _ _ _ _ (c .before .loop-test .taken) ∙ c .before .before .loop .inv .2)
 
--- src/lib.rt:59:5
 add-result : tie.Need-add-result Inv-loop μ-loop
 add-result c = search needs
 
--- src/lib.rt:50:1
 same-length : tie.Need-same-length Inv-loop μ-loop
 same-length c = search needs
 
--- src/lib.rt:50:1
 returns : tie.Need-returns Inv-loop μ-loop
 returns c = (search needs, sym (run-done _ _ _ _ (c .loop-test .left)) ∙ c .before .loop .inv .2)
 
