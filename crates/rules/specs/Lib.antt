@@ -17,3 +17,4 @@ pub mod Calls
 pub mod Cases
 pub mod OneOutcome
 pub mod ChecksumCases
+pub mod Exactly
