@@ -47,6 +47,9 @@ fails-flag false = record { yes = λ e. refl; no = λ e f. false≢true e }
 pub fails-not : {b : Bool} {P : Type 0} → Tells b P → Fails b (¬ P)
 fails-not t = record { yes = t .no; no = λ e n. n (t .yes e) }
 
+pub fails-map : {b : Bool} {P Q : Type 0} → (P → Q) → (Q → P) → Fails b P → Fails b Q
+fails-map f g t = record { yes = λ e. f (t .yes e); no = λ e h. t .no e (g h) }
+
 -- ---- two tests
 
 -- both hold
