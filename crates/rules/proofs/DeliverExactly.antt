@@ -40,6 +40,7 @@ use Rattle.rules.specs.declared.Refusal.the-variants.{OtherTransaction}
 use Rattle.rules.specs.declared.Done.{Done}
 use Rattle.rules.proofs.Tells.{Tells, Fails, tests, tells-eqb, tells-ltb, tells-flag, fails-not, fails-map, tells-either, iff-tells, tells-idle, tells-step}
 use Rattle.rules.proofs.Order.{First, hits, fails, passes, here, there, either, anew, exactly}
+use Rattle.rules.proofs.Table.{verdict-nak, verdict-ack, verdict-finished, verdict-keep}
 use Rattle.rules.proofs.PutExactly.{tells-width}
 
 -- ---- 20: the frame
@@ -252,49 +253,7 @@ nak-first s rs =
     (λ _. hits number (anyInvalid (s .file .progress) rs) _ _ 24 _ _ (tells-any (s .file .progress) rs) refl
     (λ _. hits number (ltb (free (s .queue)) (owing rs)) _ _ 25 _ _ (tells-full s (owing rs)) refl (λ _. passes)))
 
--- ---- 22: the table of steps, by kind
-
-verdict-nak : (k : TransactionStep) (n : ℕ)
-    → verdictOf k (Nak n) ≡ pick (eqb (stepNo k) 0) Refuse (pick (eqb (stepNo k) 1) Refuse (pick (eqb (stepNo k) 6) Refuse Enqueue))
-unfolding verdictOf
-verdict-nak Idle n = refl
-verdict-nak SendingMetadata n = refl
-verdict-nak SendingFileData n = refl
-verdict-nak SendingEof n = refl
-verdict-nak WaitingForEofAck n = refl
-verdict-nak WaitingForFinished n = refl
-verdict-nak Closing n = refl
-
-verdict-ack : (k : TransactionStep) → verdictOf k AckOfEof ≡ pick (eqb (stepNo k) 4) Move Refuse
-unfolding verdictOf
-verdict-ack Idle = refl
-verdict-ack SendingMetadata = refl
-verdict-ack SendingFileData = refl
-verdict-ack SendingEof = refl
-verdict-ack WaitingForEofAck = refl
-verdict-ack WaitingForFinished = refl
-verdict-ack Closing = refl
-
-verdict-finished : (k : TransactionStep) (p : FinishedParams)
-    → verdictOf k (Finished p) ≡ pick (eqb (stepNo k) 0) NoEffect (pick (eqb (stepNo k) 5) Move Refuse)
-unfolding verdictOf
-verdict-finished Idle p = refl
-verdict-finished SendingMetadata p = refl
-verdict-finished SendingFileData p = refl
-verdict-finished SendingEof p = refl
-verdict-finished WaitingForEofAck p = refl
-verdict-finished WaitingForFinished p = refl
-verdict-finished Closing p = refl
-
-verdict-keep : (k : TransactionStep) (p : ℕ) → verdictOf k (KeepAlive p) ≡ NoEffect
-unfolding verdictOf
-verdict-keep Idle p = refl
-verdict-keep SendingMetadata p = refl
-verdict-keep SendingFileData p = refl
-verdict-keep SendingEof p = refl
-verdict-keep WaitingForEofAck p = refl
-verdict-keep WaitingForFinished p = refl
-verdict-keep Closing p = refl
+-- ---- 22: the table of steps
 
 -- the last three lines, over the code and the requests
 abbrev behind : State → ℕ → List SegmentRequest → List Rule

@@ -2,14 +2,14 @@
 -- Assumes nothing.
 use mathlib.Core.Path.{_≡_, refl, sym, subst, _∙_}
 use mathlib.Core.Logic.{_⊎_, inl, inr, ⊎-elim}
-use mathlib.Core.Bool.{Bool, true, false, false≢true}
+use mathlib.Core.Bool.{Bool, true, false}
 use mathlib.Core.List.{List, [], _∷_}
 use Prim.Native.Nat.{ℕ}
 use borrow.Author.Tests.{eqb-false}
 use lib.Dec.{eqb}
 use Rattle.basis.specs.Pick.{pick}
 use Rattle.rules.specs.Exactly.{Rule, _when_, After, Exactly}
-use Rattle.rules.proofs.Tells.{Tells, Fails}
+use Rattle.rules.proofs.Tells.{Tells, Fails, both, but}
 
 -- the number of the first line whose condition holds, 0 if none does
 abbrev FirstIs : List Rule → ℕ → Type 0
@@ -77,14 +77,6 @@ anew k P Q rs ts n p q r f = record { is = go (f .is) }
     go (inr h) = inr (λ x. h .0 (q x), r (record { is = h .1 }) .is)
 
 -- ---- from the first to exactly
-
-both : (b c : Bool) → pick b c false ≡ true → (b ≡ true) × (c ≡ true)
-both true c e = (refl, e)
-both false c e = absurd (false≢true e)
-
-but : (b c : Bool) → pick b false c ≡ true → (b ≡ false) × (c ≡ true)
-but true c e = absurd (false≢true e)
-but false c e = (refl, e)
 
 free-is : (k : ℕ) (rs : List Rule) → free k rs ≡ true → Free k rs
 free-is k [] e = eqb-false k 0 (but (eqb k 0) true e .0)

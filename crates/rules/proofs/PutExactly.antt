@@ -32,11 +32,11 @@ pub tells-width : (w : ℕ) → Tells (goodWidth w) (Width w)
 unfolding goodWidth
 tells-width w = search tests depth 8
 
-tells-fits : (w v : ℕ) → Tells (fits w v) (Within w v)
+pub tells-fits : (w v : ℕ) → Tells (fits w v) (Within w v)
 unfolding fits
 tells-fits w v = search (tests, tells-width)
 
-fails-ids : (a b : EntityId) (n : TransactionSeqNum)
+pub fails-ids : (a b : EntityId) (n : TransactionSeqNum)
     → Fails (idsFit a b n) ((¬ Within (a .0) (a .1)) ⊎ (¬ Within (b .0) (b .1)) ⊎ (¬ Within (n .0) (n .1)))
 unfolding idsFit
 fails-ids a b n = search (tests, tells-fits) depth 8
@@ -58,7 +58,7 @@ fails-found : (c : LocalEntityConfig) (v : ℕ) → Fails (isFound c v) (¬ OneH
 unfolding isFound entries
 fails-found c v = fails-not (tells-findIn (take (c .count) (c .remotes)) v)
 
-tells-type : (t : ℕ) → Tells (knownType t) (KnownType t)
+pub tells-type : (t : ℕ) → Tells (knownType t) (KnownType t)
 unfolding knownType
 tells-type t = search tests depth 8
 
@@ -66,12 +66,12 @@ tells-action : (a : ℕ) → Tells (knownAction a) ((a ≡ 1) ⊎ (a ≡ 3) ⊎ 
 unfolding knownAction
 tells-action a = search tests depth 8
 
-fails-actions : (l : List ℕ) → Fails (allKnown l) (OneUnknown l)
+pub fails-actions : (l : List ℕ) → Fails (allKnown l) (OneUnknown l)
 unfolding allKnown
 fails-actions [] = record { yes = λ e. absurd (true≢false e); no = λ e h. h }
 fails-actions (a ∷ l) = fails-either (fails-not (tells-action a)) (fails-actions l)
 
-fails-config : (e : RemoteEntityConfig) (actions : List ℕ)
+pub fails-config : (e : RemoteEntityConfig) (actions : List ℕ)
     → Fails (goodConfig e actions) (BadEntry e ⊎ OneUnknown actions)
 unfolding goodConfig goodEntry
 fails-config e actions = search (tests, tells-type, fails-actions) depth 8
@@ -80,7 +80,7 @@ fails-length : (name : List ℕ) → Fails (goodLength (length name)) (BadLength
 unfolding goodLength
 fails-length name = search (tests, fails-leb)
 
-fails-lengths : (source destination : List ℕ) → Fails (goodLengths (length source) (length destination)) (BadLength source ⊎ BadLength destination)
+pub fails-lengths : (source destination : List ℕ) → Fails (goodLengths (length source) (length destination)) (BadLength source ⊎ BadLength destination)
 unfolding goodLengths
 fails-lengths source destination = search (tests, fails-length)
 

@@ -105,6 +105,20 @@ pub iff-tells : {b : Bool} {P : Type 0} → (b ≡ true) ↔ P → Tells b P
 iff-tells {b = true} i = record { yes = i .0; no = λ e. absurd (true≢false e) }
 iff-tells {b = false} i = record { yes = i .0; no = λ e h. false≢true (i .1 h) }
 
+-- ---- a joined test taken apart
+
+pub both : (b c : Bool) → pick b c false ≡ true → (b ≡ true) × (c ≡ true)
+both true c e = (refl, e)
+both false c e = absurd (false≢true e)
+
+pub but : (b c : Bool) → pick b false c ≡ true → (b ≡ false) × (c ≡ true)
+but true c e = absurd (false≢true e)
+but false c e = (refl, e)
+
+pub neither : (b c : Bool) → pick b true c ≡ false → (b ≡ false) × (c ≡ false)
+neither true c e = absurd (true≢false e)
+neither false c e = (refl, e)
+
 -- ---- where a state stands
 
 steps : List TransactionStep

@@ -18,3 +18,4 @@ pub mod Cases
 pub mod OneOutcome
 pub mod ChecksumCases
 pub mod Exactly
+pub mod Good
