@@ -1,6 +1,6 @@
 -- The byte cases, computed: every definition on the way is opened.
 -- Assumes nothing.
-use mathlib.Core.Path.{_≡_, refl}
+use mathlib.Core.Path.{refl}
 use Rattle.basis.specs.Bytes.{be, numAt, num, part, byte}
 use Rattle.basis.specs.Laid.{inFront}
 use Rattle.rules.specs.Numbers.{goodWidth, fits, larger, numberAfter, isLarge, segmentLength}

@@ -5,7 +5,7 @@ use mathlib.Core.Path.{_≡_, refl, sym, ap, _∙_}
 use mathlib.Core.Logic.{_⊎_, inl, inr, ⊎-elim}
 use mathlib.Core.Bool.{Bool, true, false, true≢false, false≢true}
 use mathlib.Core.List.{List, [], _∷_}
-use Prim.Native.Nat.{ℕ, _+_, _-_, _*_, _/_, _%_, _<_}
+use Prim.Native.Nat.{ℕ, _+_, _-_, _<_}
 use native.Mathlib.Omega.{arith}
 use borrow.Author.Tests.{eqb-true, eqb-false}
 use lib.Dec.{eqb, ltb}
@@ -13,15 +13,15 @@ use lib.ListN.{length, take, drop}
 use Rattle.basis.specs.Pick.{pick}
 use Rattle.basis.specs.Bytes.{byte, numAt}
 use Rattle.basis.proofs.Pick.{cases}
-use Rattle.rules.specs.Numbers.{goodWidth, F}
+use Rattle.rules.specs.Numbers.{F}
 use Rattle.rules.specs.Checksum.{crc16}
-use Rattle.rules.specs.Reading.{endIn, headIn, crcAgrees, wellFramed, frameIn, framedIn, bodyIn, fileDataIn, toSenderIn, largeIn, reserved, areTlvs, finishedParams, finishedIn, ackIn, requestCount, nakIn, keepAliveIn, directiveIn, directed, bodyOf}
-use Rattle.rules.specs.PduLaws.{Tlvs, TlvsExactly}
+use Rattle.rules.specs.Reading.{endIn, headIn, crcAgrees, wellFramed, frameIn, framedIn, bodyIn, fileDataIn, toSenderIn, largeIn, reserved, finishedParams, finishedIn, ackIn, requestCount, nakIn, keepAliveIn, directiveIn, directed, bodyOf}
+use Rattle.rules.specs.PduLaws.{TlvsExactly}
 use Rattle.rules.specs.Refusals.{answerNo}
 use Rattle.rules.specs.States.{isIdle}
 use Rattle.rules.specs.Queues.{invalid, anyInvalid, owing, free}
 use Rattle.rules.specs.Deliver.{stepNo, verdictOf, sameTransaction, takesNak, nakOf, requestsIn, byVerdict, refused, heard, byBody, byFrame, deliverSpec}
-use Rattle.rules.specs.Exactly.{Rule, _when_, Width, NoFrame, Reserved, BadFinished, BadAck, BadNak, Unread, BadBody, CantBody, NoNak, Unexpected, Differs, OneInvalid, pairsIn, deliverRules, DeliverExactly}
+use Rattle.rules.specs.Exactly.{Rule, _when_, NoFrame, Reserved, BadFinished, BadAck, BadNak, Unread, BadBody, CantBody, NoNak, Unexpected, Differs, OneInvalid, pairsIn, deliverRules, DeliverExactly}
 use Rattle.rules.specs.declared.Head.{Head}
 use Rattle.rules.specs.declared.Frame.{Frame}
 use Rattle.rules.specs.declared.Framed.the-variants.{Malformed as NoFrame′, Whole}
@@ -32,13 +32,12 @@ use Rattle.rules.specs.declared.Meaning.the-variants.{Finished, AckOfEof
 use Rattle.rules.specs.declared.SegmentRequest.{SegmentRequest}
 use Rattle.rules.specs.declared.FinishedParams.{FinishedParams}
 use Rattle.rules.specs.declared.State.{State}
-use Rattle.rules.specs.declared.TransactionStep.{TransactionStep}
-use Rattle.rules.specs.declared.TransactionStep.the-variants.{Idle, SendingMetadata, SendingFileData, SendingEof, WaitingForEofAck, WaitingForFinished, Closing}
+use Rattle.rules.specs.declared.TransactionStep.the-variants.{Idle, SendingMetadata, WaitingForEofAck, WaitingForFinished, Closing}
 use Rattle.rules.specs.declared.Verdict.{Verdict}
-use Rattle.rules.specs.declared.Verdict.the-variants.{Enqueue, Move, Refuse, NoEffect}
+use Rattle.rules.specs.declared.Verdict.the-variants.{Move, Refuse, NoEffect}
 use Rattle.rules.specs.declared.Refusal.the-variants.{OtherTransaction}
 use Rattle.rules.specs.declared.Done.{Done}
-use Rattle.rules.proofs.Tells.{Tells, Fails, tests, tells-eqb, tells-ltb, tells-flag, fails-not, fails-map, tells-either, iff-tells, tells-idle, tells-step}
+use Rattle.rules.proofs.Tells.{Tells, Fails, tests, tells-eqb, tells-ltb, fails-not, fails-map, tells-either, iff-tells, tells-idle, tells-step}
 use Rattle.rules.proofs.Order.{First, hits, fails, passes, here, there, either, anew, exactly}
 use Rattle.rules.proofs.Table.{verdict-nak, verdict-ack, verdict-finished, verdict-keep}
 use Rattle.rules.proofs.PutExactly.{tells-width}
@@ -242,11 +241,11 @@ number d = answerNo (d .answer)
 
 nak-first : (s : State) (rs : List SegmentRequest)
     → First
-      ((22 when (s .fixed .head .unacknowledged ≡ true) ⊎ (s .marks .cancelled ≡ true))
-      ∷ (24 when OneInvalid (s .file .progress) rs)
-      ∷ (25 when 64 - s .queue .count < owing rs)
-      ∷ [])
-      (number (nakOf s rs))
+    ((22 when (s .fixed .head .unacknowledged ≡ true) ⊎ (s .marks .cancelled ≡ true))
+    ∷ (24 when OneInvalid (s .file .progress) rs)
+    ∷ (25 when 64 - s .queue .count < owing rs)
+    ∷ [])
+    (number (nakOf s rs))
 unfolding nakOf
 nak-first s rs =
     fails number (takesNak s) _ _ 22 _ _ (fails-takes s) refl
@@ -296,6 +295,7 @@ module _ (s : State) (bytes : List ℕ) (f : Frame) (code : ℕ) (rs : List Segm
     where
       only : ¬ ((¬ (s .step ≡ Idle)) × (¬ (s .step ≡ WaitingForFinished))) → ¬ Unexpected s code
       only n = ⊎-elim (λ x. absurd (omega (arith, e, x .0))) (⊎-elim (λ x. absurd (omega (arith, e, x .0))) (λ x. n (x .1)))
+
       go : (b : Bool) → Tells b (s .step ≡ Idle) → (c : Bool) → Tells c (s .step ≡ WaitingForFinished)
           → First (behind s code rs) (number (byVerdict s bytes f (Finished p) (pick b NoEffect (pick c Move Refuse))))
       go true t c u = there 22 _ _ 0 (only (λ n. n .0 (t .yes refl))) (not-nak (omega arith))
@@ -329,6 +329,7 @@ heard-first s bytes f m rs r = go (isIdle (s .step)) (tells-idle (s .step)) (sam
   where
     on : Done
     on = byVerdict s bytes f m (verdictOf (s .step) m)
+
     go : (i : Bool) → Tells i (s .step ≡ Idle) → (d : Bool) → Fails d (Differs (s .fixed .head) (f .head))
         → First ((23 when (¬ (s .step ≡ Idle)) × Differs (s .fixed .head) (f .head)) ∷ rs) (number (pick i on (pick d on (refused s OtherTransaction))))
     go true t d u = there 23 _ _ _ (λ x. x .0 (t .yes refl)) r
@@ -343,8 +344,10 @@ deliver-exactly tlvs s bytes = exactly (deliverRules s bytes) _ refl (go (wellFr
   where
     f : Frame
     f = frameIn bytes
+
     b : List ℕ
     b = bodyIn bytes
+
     body-first : ¬ NoFrame bytes → (v : Body) → Sorted (fileDataIn bytes) (toSenderIn bytes) (largeIn bytes) b v
         → First (deliverRules s bytes) (number (byBody s bytes f v))
     body-first n _ (bad p) = here 20 _ _ (inr p)
@@ -352,6 +355,7 @@ deliver-exactly tlvs s bytes = exactly (deliverRules s bytes) _ refl (go (wellFr
     body-first n _ (means m p q k) =
         there 20 _ _ _ (⊎-elim n p)
         (there 21 _ _ _ q (heard-first s bytes f m _ (any-behind s bytes f (byte b 0) (pairsIn bytes) (largeIn bytes) b m refl k refl)))
+
     go : (t : Bool) → Fails t (NoFrame bytes) → First (deliverRules s bytes) (number (byFrame s bytes (pick t (Whole f) NoFrame′)))
     go true t = body-first (t .no refl) _ (sorted tlvs f b)
     go false t = here 20 _ _ (inl (t .yes refl))

@@ -1,44 +1,40 @@
 -- Every call keeps the state good: for each way through a call, the facts that its tests give.
 -- Assumes nothing.
 use mathlib.Core.Path.{_≡_, refl, sym, ap, subst, _∙_}
-use mathlib.Core.Logic.{_⊎_, inl, inr, ⊎-elim}
+use mathlib.Core.Logic.{_⊎_, inl, inr}
 use mathlib.Core.Bool.{Bool, true, false, true≢false, false≢true}
-use mathlib.Core.List.{List, [], _∷_}
-use Prim.Native.Nat.{ℕ, zero, suc, _+_, _-_, _/_, _^_, _≤_, _<_, min}
+use mathlib.Core.List.{List}
+use Prim.Native.Nat.{ℕ, _+_, _-_, _^_, _≤_, _<_}
 use native.Mathlib.Omega.{arith}
 use borrow.Author.Tests.{eqb-true, eqb-false, leb-false, ltb-true}
 use lib.Dec.{eqb, leb, ltb}
 use lib.ListN.{length, take}
 use Rattle.basis.specs.Pick.{pick}
-use Rattle.basis.specs.Bytes.{Bytes, part, byte}
+use Rattle.basis.specs.Bytes.{Bytes}
 use Rattle.basis.proofs.Pick.{cases}
-use Rattle.rules.specs.Checksum.{sumOf}
-use Rattle.rules.specs.States.{toStep, withFile, withQueue, withMarks, keeping, counted, marked, settled, told, emptyQueue, idle}
+use Rattle.rules.specs.States.{toStep, withQueue, withMarks, counted, emptyQueue, idle}
 use Rattle.rules.specs.Queues.{served}
 use Rattle.rules.specs.Step.{actionFor, faultDue, ackExpired, checkExpired, dueAt, eofOwed, dueOf, eofFor, cancelEof, nextLength, awaiting, afterCancelEof, afterMetadata, onward, afterData, afterEof, faultMarked, afterOf, changed, bytesDue, made, stepSpec}
 use Rattle.rules.specs.Put.{putAnswer, putState, byAnswer, putSpec}
 use Rattle.rules.specs.Deliver.{stepNo}
 use Rattle.rules.specs.Cancel.{canCancel, mayCancel, userCancelled, cancelSpec, resetSpec, newSpec}
-use Rattle.rules.specs.Good.{GoodQueue, GoodMarks, Under, Whole, Kept, Sending, At, Good, Reachable, new, put, deliver, step, cancel, reset, AlwaysGood, AnomalyNeverMoves}
+use Rattle.rules.specs.Good.{GoodQueue, GoodMarks, Under, Whole, At, Good, GoodKept, new, put, deliver, step, cancel, reset, AlwaysGood, AnomalyNeverMoves}
 use Rattle.rules.specs.declared.EntityId.{EntityId}
 use Rattle.rules.specs.declared.TransactionSeqNum.{TransactionSeqNum}
-use Rattle.rules.specs.declared.Eof.{Eof}
-use Rattle.rules.specs.declared.FinishedParams.{FinishedParams}
 use Rattle.rules.specs.declared.FileParams.{FileParams}
 use Rattle.rules.specs.declared.Queue.{Queue}
-use Rattle.rules.specs.declared.Marks.{Marks}
 use Rattle.rules.specs.declared.State.{State}
 use Rattle.rules.specs.declared.TransactionStep.{TransactionStep}
 use Rattle.rules.specs.declared.TransactionStep.the-variants.{Idle, SendingMetadata, SendingFileData, SendingEof, WaitingForEofAck, WaitingForFinished, Closing}
 use Rattle.rules.specs.declared.Due.{Due}
-use Rattle.rules.specs.declared.Due.the-variants.{CancelEof, Repair, Metadata, Data, NoErrorEof, EofAgain, FaultCancel, FaultIgnore, FaultAbandon, Close, Nothing}
+use Rattle.rules.specs.declared.Due.the-variants.{CancelEof, Repair, EofAgain, FaultCancel, FaultIgnore, FaultAbandon, Nothing}
 use Rattle.rules.specs.declared.Answer.{Answer}
 use Rattle.rules.specs.declared.Answer.the-variants.{Accepted, Refused}
 use Rattle.rules.specs.declared.Stepped.{Stepped}
 use Rattle.rules.specs.declared.Cancelled.{Cancelled}
 use Rattle.rules.proofs.Tells.{both}
 use Rattle.rules.proofs.Sums.{sum-lt}
-use Rattle.rules.proofs.GoodQueue.{good-empty, good-on, all-good, served-good}
+use Rattle.rules.proofs.GoodQueue.{good-empty, good-on, served-good}
 use Rattle.rules.proofs.GoodMarks.{good-noMarks, good-counted, good-settled, good-marked}
 use Rattle.rules.proofs.GoodPut.{put-good}
 use Rattle.rules.proofs.GoodDeliver.{bytes-take, deliver-good}
@@ -316,15 +312,26 @@ kept-or-good s t (Refused r) g h = g
 
 -- ---- every call
 
-pub always-good : AlwaysGood
+pub good-kept : GoodKept
 unfolding newSpec resetSpec putSpec
-always-good _ (new n) = good-idle n
-always-good _ (put {s = s} r c q source destination S h) =
-    kept-or-good s (putState s c q source destination S) (putAnswer s c q source destination S) (always-good s r) (put-good s c q source destination S h)
-always-good _ (deliver {s = s} r bytes h) = deliver-good s (always-good s r) bytes h
-always-good _ (step {s = s} r file expired room h) = step-good s file (always-good s r) h expired room
-always-good _ (cancel {s = s} r source number) = cancel-good s source number (always-good s r)
-always-good _ (reset {s = s} r) = good-idle (s .number)
+good-kept =
+    record {
+      new = λ n. good-idle n;
+      put = λ s c q source destination S h g.
+          kept-or-good s (putState s c q source destination S) (putAnswer s c q source destination S) g (put-good s c q source destination S h);
+      deliver = λ s bytes h g. deliver-good s g bytes h;
+      step = λ s file expired room h g. step-good s file g h expired room;
+      cancel = λ s source number g. cancel-good s source number g;
+      reset = λ s g. good-idle (s .number);
+    }
+
+pub always-good : AlwaysGood
+always-good _ (new n) = good-kept .new n
+always-good _ (put {s = s} r c q source destination S h) = good-kept .put s c q source destination S h (always-good s r)
+always-good _ (deliver {s = s} r bytes h) = good-kept .deliver s bytes h (always-good s r)
+always-good _ (step {s = s} r file expired room h) = good-kept .step s file expired room h (always-good s r)
+always-good _ (cancel {s = s} r source number) = good-kept .cancel s source number (always-good s r)
+always-good _ (reset {s = s} r) = good-kept .reset s (always-good s r)
 
 pub anomaly-never-moves : AnomalyNeverMoves
 anomaly-never-moves s r = always-good s r .marks .anomalies

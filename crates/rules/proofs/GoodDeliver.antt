@@ -1,12 +1,11 @@
 -- A delivery keeps the state good, by the kind of PDU and the step's row of the table.
 -- Assumes nothing.
-use mathlib.Core.Path.{_≡_, refl, sym, ap, subst, _∙_}
-use mathlib.Core.Logic.{_⊎_, inl, inr, ⊎-elim}
-use mathlib.Core.Bool.{Bool, true, false, true≢false, false≢true}
+use mathlib.Core.Path.{_≡_, refl, sym, subst, _∙_}
+use mathlib.Core.Logic.{⊎-elim}
+use mathlib.Core.Bool.{Bool, true, false, true≢false}
 use mathlib.Core.List.{List, [], _∷_}
 use Prim.Native.Nat.{ℕ, zero, suc, _+_, _-_, _*_, _/_, _%_, _<_}
 use native.Mathlib.Omega.{arith}
-use borrow.Author.Tests.{eqb-true, eqb-false}
 use lib.Dec.{eqb, ltb}
 use lib.ListN.{length, getD, take, drop}
 use Rattle.basis.specs.Pick.{pick}
@@ -14,7 +13,7 @@ use Rattle.basis.specs.Bytes.{Bytes, part, byte}
 use Rattle.basis.proofs.Pick.{cases}
 use Rattle.rules.specs.Numbers.{F}
 use Rattle.rules.specs.Reading.{framedIn, reserved, areTlvs, finishedParams, finishedIn, ackIn, nakIn, keepAliveIn, directiveIn, directed, bodyOf}
-use Rattle.rules.specs.States.{isIdle, toStep, withQueue, emptyQueue, settled}
+use Rattle.rules.specs.States.{isIdle, toStep, withQueue, settled}
 use Rattle.rules.specs.Queues.{anyInvalid, owing, free, pushAll}
 use Rattle.rules.specs.Deliver.{stepNo, verdictOf, sameTransaction, takesNak, nakOf, requestsIn, finishedOf, byVerdict, heard, byBody, byFrame, deliverSpec}
 use Rattle.rules.specs.Good.{At, Good}

@@ -1,27 +1,25 @@
 -- An accepted put makes a good state: every fact follows from a test that it passed.
 -- Assumes nothing.
-use mathlib.Core.Path.{_≡_, refl, sym, ap, subst, _∙_}
-use mathlib.Core.Logic.{_⊎_, inl, inr, ⊎-elim}
-use mathlib.Core.Bool.{Bool, true, false, true≢false, false≢true}
-use mathlib.Core.List.{List, [], _∷_, _++_}
-use Prim.Native.Nat.{ℕ, zero, suc, _+_, _-_, _*_, _^_, _≤_, _<_, min}
+use mathlib.Core.Path.{_≡_, refl}
+use mathlib.Core.Bool.{Bool, true, false}
+use mathlib.Core.List.{List, _++_}
+use Prim.Native.Nat.{ℕ, _+_, _-_, _*_, _^_, _≤_, _<_}
 use native.Mathlib.Nat.{lt-of-lt-of-le}
 use native.Mathlib.Omega.{arith}
 use borrow.Author.Tests.{ltb-true, ltb-false, leb-true, eqb-false, le-ltb}
 use lib.Dec.{leb, ltb, eqb}
-use lib.ListN.{length, take, drop, replicate, length-append, length-replicate}
+use lib.ListN.{length, take, replicate, length-append, length-replicate}
 use lib.Pow.{pow-mono}
 use lib.Seq.{take-append-seam, drop-append-seam}
-use Rattle.basis.specs.Pick.{pick, flag}
+use Rattle.basis.specs.Pick.{pick}
 use Rattle.basis.proofs.Pick.{cases}
-use Rattle.rules.specs.Numbers.{goodWidth, fits, larger, H, F, C, isLarge, segmentLength}
+use Rattle.rules.specs.Numbers.{goodWidth, fits, larger, H, F, C, segmentLength}
 use Rattle.rules.specs.Utf8.{isUtf8}
 use Rattle.rules.specs.Layout.{metadata, pduLength}
 use Rattle.rules.specs.PduLaws.{Fit}
 use Rattle.rules.specs.States.{isIdle}
-use Rattle.rules.specs.Put.{idsFit, isFound, entryOf, knownType, allKnown, goodEntry, goodConfig, goodLength, goodLengths, headOf, tooLong, padded, paddedLength, namesOf, fixedOf, started, entryAnswer, putAnswer, putState}
-use Rattle.rules.specs.Good.{GoodFixed, GoodName, Busy, Good}
-use Rattle.rules.specs.declared.EntityId.{EntityId}
+use Rattle.rules.specs.Put.{idsFit, isFound, entryOf, knownType, allKnown, goodEntry, goodConfig, goodLength, goodLengths, headOf, tooLong, padded, paddedLength, fixedOf, started, entryAnswer, putAnswer, putState}
+use Rattle.rules.specs.Good.{GoodFixed, GoodName, Good}
 use Rattle.rules.specs.declared.TransactionSeqNum.{TransactionSeqNum}
 use Rattle.rules.specs.declared.Head.{Head}
 use Rattle.rules.specs.declared.RemoteEntityConfig.{RemoteEntityConfig}
@@ -192,14 +190,18 @@ put-good s c q source destination S S64 e₀ =
       count = omega arith;
       marks = good-noMarks;
       silent = λ _. refl;
-      here =
-          (record {
-            fixed = good-fixed c e q (s .number) source destination S (t₂ .0) (t₄ .0) t₈ S64;
-            source = good-name source (lengths .0) (t₆ .0);
-            destination = good-name destination (lengths .1) (t₇ .0);
-            metadata =
-                meta-room h e _ _ _ source destination _ _ t₈ (small e (c .actions) (t₄ .0)) (name-is source (named source (lengths .0) .1))
-                (name-is destination (named destination (lengths .1) .1));
-            next = refl;
-          }, refl, refl, refl);
+      here = (
+        record {
+          fixed = good-fixed c e q (s .number) source destination S (t₂ .0) (t₄ .0) t₈ S64;
+          source = good-name source (lengths .0) (t₆ .0);
+          destination = good-name destination (lengths .1) (t₇ .0);
+          metadata =
+              meta-room h e _ _ _ source destination _ _ t₈ (small e (c .actions) (t₄ .0)) (name-is source (named source (lengths .0) .1))
+              (name-is destination (named destination (lengths .1) .1));
+          next = refl;
+        },
+        refl,
+        refl,
+        refl,
+      );
     }

@@ -1,20 +1,18 @@
 -- The queue stays good: empty, after a NAK's requests, after a service, and while progress grows.
 -- Assumes nothing.
-use mathlib.Core.Path.{_≡_, refl, sym, ap, subst, _∙_}
+use mathlib.Core.Path.{_≡_, refl, sym, ap, _∙_}
 use mathlib.Core.Bool.{Bool, true, false}
 use mathlib.Core.List.{List, [], _∷_, _++_}
 use Prim.Native.Nat.{ℕ, zero, suc, _+_, _-_, _≤_, _<_}
-use native.Mathlib.Nat.{add-comm}
 use native.Mathlib.Numerals.{add-one}
 use native.Mathlib.Omega.{arith}
-use borrow.Author.Tests.{leb-true, leb-false, ltb-false, lt-ltb}
-use lib.Dec.{leb, ltb, eqb}
+use borrow.Author.Tests.{leb-false, ltb-false, lt-ltb}
+use lib.Dec.{leb, ltb}
 use lib.ListN.{length, getD, take, drop, set, replicate, length-append, length-drop, length-set, replicate-append-replicate}
-use lib.Seq.{take-suc-set, drop-set-lt, drop-drop, drop-append-le, take-append-le, take-set-lt}
-use Rattle.basis.specs.Pick.{pick}
+use lib.Seq.{take-suc-set, drop-set-lt, drop-drop, drop-append-le, take-append-le}
 use Rattle.basis.proofs.Pick.{cases}
 use Rattle.rules.specs.States.{blank, emptyQueue}
-use Rattle.rules.specs.Queues.{pending, isMetadata, owes, invalid, anyInvalid, owing, free, push, pushOwed, pushAll, oldest, pop, served}
+use Rattle.rules.specs.Queues.{pending, isMetadata, owes, invalid, anyInvalid, owing, push, pushOwed, pushAll, oldest, pop, served}
 use Rattle.rules.specs.Good.{AllOwe, GoodQueue}
 use Rattle.rules.specs.declared.SegmentRequest.{SegmentRequest}
 use Rattle.rules.specs.declared.Queue.{Queue}

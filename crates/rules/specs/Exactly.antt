@@ -27,7 +27,6 @@ use Rattle.rules.specs.declared.RemoteEntityConfig.{RemoteEntityConfig}
 use Rattle.rules.specs.declared.LocalEntityConfig.{LocalEntityConfig}
 use Rattle.rules.specs.declared.PutRequest.{PutRequest}
 use Rattle.rules.specs.declared.State.{State}
-use Rattle.rules.specs.declared.TransactionStep.{TransactionStep}
 use Rattle.rules.specs.declared.TransactionStep.the-variants.{Idle, SendingMetadata, WaitingForEofAck, WaitingForFinished, Closing}
 use Rattle.rules.specs.declared.Events.{Events}
 use Rattle.rules.specs.declared.FaultEvent.the-variants.{NoFault}

@@ -122,7 +122,17 @@ pub record Good (s : State) : Type 0 where
   pub silent : (s .fixed .head .unacknowledged ≡ true) ⊎ (s .marks .cancelled ≡ true) → s .queue ≡ emptyQueue
   pub here : At (s .step) s
 
--- states that calls lead to: any arguments, bytes that are bytes, a size of 64 bits
+-- PROMISE good-kept: a new handler's state is good, and every call keeps it so: any arguments, bytes that are bytes, a size of 64 bits.
+pub record GoodKept : Type 0 where
+  pub new : (n : TransactionSeqNum) → Good (newSpec n)
+  pub put : (s : State) (c : LocalEntityConfig) (q : PutRequest) (source destination : List ℕ) (S : ℕ) → S < 2 ^ 64 → Good s
+      → Good (putSpec s c q source destination S .state)
+  pub deliver : (s : State) (bytes : List ℕ) → Bytes bytes → Good s → Good (deliverSpec s bytes .state)
+  pub step : (s : State) (file : List ℕ) (expired : Bool) (room : ℕ) → Bytes file → Good s → Good (stepSpec s file expired room .state)
+  pub cancel : (s : State) (source : EntityId) (number : TransactionSeqNum) → Good s → Good (cancelSpec s source number .state)
+  pub reset : (s : State) → Good s → Good (resetSpec s)
+
+-- states that calls lead to
 pub data Reachable : State → Type 0 where
   new : (n : TransactionSeqNum) → Reachable (newSpec n)
   put : {s : State} → Reachable s → (c : LocalEntityConfig) (q : PutRequest) (source destination : List ℕ) (S : ℕ) → S < 2 ^ 64
