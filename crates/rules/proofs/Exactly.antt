@@ -2,7 +2,7 @@
 -- Assumes nothing.
 use mathlib.Core.Path.{_≡_, refl}
 use mathlib.Core.Logic.{_⊎_, inl, inr, ⊎-elim}
-use mathlib.Core.Bool.{Bool, true, false, true≢false}
+use mathlib.Core.Bool.{Bool, true, false, true≢false, false≢true}
 use mathlib.Core.List.{List, _++_}
 use Prim.Native.Nat.{ℕ, _-_}
 use lib.Dec.{eqb, ltb}
@@ -19,7 +19,7 @@ use Rattle.rules.specs.Put.{putAnswer, putState, byAnswer, putSpec}
 use Rattle.rules.specs.Deliver.{stepNo, verdictOf, sameTransaction, takesNak, nakOf, asked, byVerdict, heard, byBody, byFrame, deliverSpec}
 use Rattle.rules.specs.Step.{dueOf, afterOf, eventsOf, changed, refusedStep, bytesDue, made, stepSpec, stepBytes}
 use Rattle.rules.specs.Cancel.{canCancel, mayCancel, userCancelled, cancelSpec}
-use Rattle.rules.specs.Exactly.{stepRules, StepExactly, CancelExactly, OwesExactly, NoEvents, RefusalChangesNothing}
+use Rattle.rules.specs.Exactly.{stepRules, StepExactly, CancelExactly, CancelMarks, OwesExactly, NoEvents, RefusalChangesNothing}
 use Rattle.rules.specs.declared.EntityId.{EntityId}
 use Rattle.rules.specs.declared.TransactionSeqNum.{TransactionSeqNum}
 use Rattle.rules.specs.declared.SegmentRequest.{SegmentRequest}
@@ -89,6 +89,16 @@ cancel-exactly s source number =
     rw (answers (mayCancel s source number) (userCancelled s) s)
     (fails-iff (fails-map (⊎-elim (⊎-elim inl (λ x. inr (inl x))) (λ x. inr (inr x))) (⊎-elim (λ x. inl (inl x)) (⊎-elim (λ x. inl (inr x)) inr))
     (fails-may s source number)))
+
+cancelled : (b : Bool) (s t : State)
+    → pick {A = Cancelled} b (record { yes = true; state = t }) (record { yes = false; state = s }) .yes ≡ true
+    → pick {A = Cancelled} b (record { yes = true; state = t }) (record { yes = false; state = s }) .state ≡ t
+cancelled true s t e = refl
+cancelled false s t e = absurd (false≢true e)
+
+pub cancel-marks : CancelMarks
+unfolding cancelSpec
+cancel-marks s source number = cancelled (mayCancel s source number) s (userCancelled s)
 
 -- ---- requests that owe
 
