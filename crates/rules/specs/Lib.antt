@@ -20,3 +20,8 @@ pub mod Tiles
 pub mod Runs
 pub mod Demand
 pub mod Companions
+pub mod Cases
+pub mod OneOutcome
+pub mod ChecksumCases
+pub mod Exactly
+pub mod Good
