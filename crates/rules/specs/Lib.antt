@@ -22,6 +22,5 @@ pub mod Demand
 pub mod Companions
 pub mod Cases
 pub mod OneOutcome
-pub mod ChecksumCases
 pub mod Exactly
 pub mod Good
