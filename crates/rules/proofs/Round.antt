@@ -26,7 +26,7 @@ use Rattle.rules.specs.PduLaws.{Fit, Sayable, RoundTrip, SameBytes, CrcC
 use Rattle.rules.specs.declared.Head.{Head}
 use Rattle.rules.specs.declared.EntityId.{EntityId}
 use Rattle.rules.proofs.Places.{At, at-start, past, part-at, num-at, byte-at, rest-at, whole-length, opened, length-wire}
-use Rattle.rules.proofs.Crc16.{crc16-lt}
+use Rattle.rules.proofs.Sums.{crc16-lt}
 
 -- ---- the header
 
