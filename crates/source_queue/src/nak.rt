@@ -44,12 +44,6 @@ pub fn request_at(s: &[u8], large: bool, at: usize) -> SegmentRequest
     SegmentRequest { start, end }
 }
 
-fn pair_width(large: bool) -> usize
-    ensures { λ r. ⌜ (r ≡ F large + F large) × (r ≤ 16) ⌝ }
-{
-    if large { 16 } else { 8 }
-}
-
 // The place of the next pair, or the end.
 fn next_pair(n: usize, large: bool, at: usize) -> usize
     ensures { λ r. ⌜ r ≡ min (at + F large + F large) n ⌝ }
@@ -57,7 +51,7 @@ fn next_pair(n: usize, large: bool, at: usize) -> usize
     if n <= at {
         return n;
     }
-    let w = pair_width(large);
+    let w = 8 + 8 * (bit_of(large) as usize);
     if n - at <= w {
         return n;
     }
