@@ -12,7 +12,7 @@ use Rattle.source_queue.proofs.nak.owing_count.Reads as reads
 use Rattle.source_queue.proofs.nak.owing_count.Lts as lts
 use Rattle.basis.proofs.bit_of.Reads as bit-of-reads
 use Rattle.source_queue.proofs.nak.next_pair.Reads as next-pair-reads
-use Rattle.source_queue.proofs.nak.request_at.Reads as request-at-reads
+use Rattle.pdu_read.proofs.nak.request_from.Reads as request-from-reads
 use Rattle.source_queue.proofs.queue.owes.Reads as owes-reads
 
 abbrev Inv-loop : tie.InvT-loop
@@ -26,8 +26,8 @@ loop-holds : tie.Need-loop-holds Inv-loop μ-loop
 loop-holds c = search needs
 
 -- src/nak.rt:92:13
-request-at-requires : tie.Need-request-at-requires Inv-loop μ-loop
-request-at-requires c κs = search needs
+request-from-requires : tie.Need-request-from-requires Inv-loop μ-loop
+request-from-requires c κs = search needs
 
 -- src/nak.rt:93:21
 owes-requires : tie.Need-owes-requires Inv-loop μ-loop
@@ -63,7 +63,7 @@ loop-again c = let t = c .before .before .before in
     let l = t .before .before in
     let a = l .before .before .args in
     (search needs
-    , rw (c .next-pair .ensures, c .before .bit-of .ensures .0, c .before .before .owes .ensures, t .request-at .ensures)
+    , rw (c .next-pair .ensures, c .before .bit-of .ensures .0, c .before .before .owes .ensures, t .request-from .ensures)
     (owing-turn (a .large) (a .bytes .now) (l .loop .m) (l .loop .k) (l .loop .i) (t .before .loop-test .taken) ∙ l .loop .inv .1))
 
 -- src/nak.rt:85:1
@@ -79,7 +79,7 @@ owing-count-spec =
     Inv-loop
     μ-loop
     loop-holds
-    request-at-requires
+    request-from-requires
     owes-requires
     bit-of-requires
     cast-m

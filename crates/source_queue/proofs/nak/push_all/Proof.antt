@@ -10,7 +10,7 @@ use Rattle.source_queue.proofs.nak.push_all.Tie as tie
 use Rattle.source_queue.proofs.nak.push_all.Reads as reads
 use Rattle.source_queue.proofs.nak.push_all.Lts as lts
 use Rattle.source_queue.proofs.nak.next_pair.Reads as next-pair-reads
-use Rattle.source_queue.proofs.nak.request_at.Reads as request-at-reads
+use Rattle.pdu_read.proofs.nak.request_from.Reads as request-from-reads
 use Rattle.source_queue.proofs.queue.push_owed.Reads as push-owed-reads
 
 abbrev Inv-loop : tie.InvT-loop
@@ -24,8 +24,8 @@ loop-holds : tie.Need-loop-holds Inv-loop μ-loop
 loop-holds c = search needs
 
 -- src/nak.rt:108:13
-request-at-requires : tie.Need-request-at-requires Inv-loop μ-loop
-request-at-requires c κs = search needs
+request-from-requires : tie.Need-request-from-requires Inv-loop μ-loop
+request-from-requires c κs = search needs
 
 -- src/nak.rt:109:9
 push-owed-requires : tie.Need-push-owed-requires Inv-loop μ-loop
@@ -48,7 +48,7 @@ loop-again : tie.Need-loop-again Inv-loop μ-loop
 loop-again c = let t = c .before .before in
     let l = t .before .before in
     let a = l .before .before .args in
-    rw (c .next-pair .ensures, c .before .push-owed .ensures, t .request-at .ensures)
+    rw (c .next-pair .ensures, c .before .push-owed .ensures, t .request-from .ensures)
     (push-turn (a .large) (a .bytes .now) (l .loop .u) (l .loop .k) (l .loop .i) (t .before .loop-test .taken) ∙ l .loop .inv)
 
 -- src/nak.rt:101:1
@@ -64,7 +64,7 @@ push-all-spec =
     Inv-loop
     μ-loop
     loop-holds
-    request-at-requires
+    request-from-requires
     push-owed-requires
     next-pair-requires
     sub-k
