@@ -1,7 +1,8 @@
 // Put: refusals 1 to 8 in checking order, or the state anew. Any state, configuration and request is taken; a refusal changes nothing.
-mod numbers;
 mod config;
+mod numbers;
 mod start;
+
 use config::entry_of;
 use config::ids_fit;
 use config::is_found;
@@ -99,8 +100,14 @@ pub fn put(
     match a {
         Answer::Accepted => {
             let t = put_state(s, c, q, source, destination, size);
-            Done { answer: Answer::Accepted, state: t }
+            Done {
+                answer: Answer::Accepted,
+                state: t,
+            }
         }
-        Answer::Refused(r) => Done { answer: Answer::Refused(r), state: s },
+        Answer::Refused(r) => Done {
+            answer: Answer::Refused(r),
+            state: s,
+        },
     }
 }

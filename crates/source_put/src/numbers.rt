@@ -68,5 +68,9 @@ pub fn segment_length(maxsegment: u64, maxpacket: u64, h: Head) -> u64
     if maxpacket < o {
         return 0;
     }
-    if maxpacket - o < maxsegment { maxpacket - o } else { maxsegment }
+    if maxpacket - o < maxsegment {
+        maxpacket - o
+    } else {
+        maxsegment
+    }
 }

@@ -143,11 +143,19 @@ pub fn started(n: TransactionSeqNum, f: Fixed, names: Names) -> State
     ensures { λ r. ⌜ r ≡ started n f names ⌝ }
 {
     let number = number_after(n);
-    let eof = Eof { condition: 0, sum: 0, size: 0 };
+    let eof = Eof {
+        condition: 0,
+        sum: 0,
+        size: 0,
+    };
     let file = FileParams { progress: 0, eof };
     let places = [SegmentRequest { start: 0, end: 0 }; 64];
     let queue = Queue { places, count: 0 };
-    let finished = FinishedParams { condition: 0, delivery: 0, status: 0 };
+    let finished = FinishedParams {
+        condition: 0,
+        delivery: 0,
+        status: 0,
+    };
     let marks = Marks {
         cancelled: false,
         owed: false,
@@ -156,5 +164,13 @@ pub fn started(n: TransactionSeqNum, f: Fixed, names: Names) -> State
         finished,
         anomalies: 0,
     };
-    State { number, step: TransactionStep::SendingMetadata, fixed: f, names, file, queue, marks }
+    State {
+        number,
+        step: TransactionStep::SendingMetadata,
+        fixed: f,
+        names,
+        file,
+        queue,
+        marks,
+    }
 }

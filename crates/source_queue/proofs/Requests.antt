@@ -74,6 +74,7 @@ module _ (large : Bool) (s : List ℕ) where
     where
       rest : ℕ
       rest = owing (requestsFrom (k - 1) large s (min (i + F large + F large) (length s)))
+
       go : (b : Bool) → m + flag b + rest ≡ m + pick b (suc rest) rest
       go true = omega arith
       go false = omega arith

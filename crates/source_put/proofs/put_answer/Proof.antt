@@ -7,55 +7,37 @@ use Rattle.source_put.proofs.Accepted.{to-entry}
 use borrow.Author.Needs.{needs}
 use Rattle.source_put.proofs.put_answer.Statement.{statement}
 use Rattle.source_put.proofs.put_answer.Tie as tie
-use Rattle.source_put.proofs.put_answer.Reads as reads
-use Rattle.source_put.proofs.put_answer.Lts as lts
-use Rattle.source_put.proofs.config.entry_of.Reads as entry-of-reads
-use Rattle.source_put.proofs.config.ids_fit.Reads as ids-fit-reads
-use Rattle.source_put.proofs.config.is_found.Reads as is-found-reads
-use Rattle.source_put.proofs.is_idle.Reads as is-idle-reads
-use Rattle.source_put.proofs.start.entry_answer.Reads as entry-answer-reads
-use Rattle.source_put.proofs.start.head_of.Reads as head-of-reads
 
--- src/lib.rt:53:9
 is-idle-requires : tie.Need-is-idle-requires
 is-idle-requires c κs = search needs
 
--- src/lib.rt:54:9
 returns : tie.Need-returns
 unfolding putAnswer
 returns c = search (picks, told) depth 10
 
--- src/lib.rt:56:9
 ids-fit-requires : tie.Need-ids-fit-requires
 ids-fit-requires c κs = search needs
 
--- src/lib.rt:57:9
 returns-2 : tie.Need-returns-2
 unfolding putAnswer
 returns-2 c = search (picks, told) depth 10
 
--- src/lib.rt:59:9
 is-found-requires : tie.Need-is-found-requires
 is-found-requires c κs = search needs
 
--- src/lib.rt:60:9
 returns-3 : tie.Need-returns-3
 unfolding putAnswer
 returns-3 c = search (picks, told) depth 10
 
--- src/lib.rt:62:9
 entry-of-requires : tie.Need-entry-of-requires
 entry-of-requires c κs = search needs
 
--- src/lib.rt:63:9
 head-of-requires : tie.Need-head-of-requires
 head-of-requires c κs = search needs
 
--- src/lib.rt:65:5
 entry-answer-requires : tie.Need-entry-answer-requires
 entry-answer-requires c κs = search needs
 
--- src/lib.rt:42:1
 returns-4 : tie.Need-returns-4
 returns-4 c =
     let k = c .before .before .before .before in

@@ -11,9 +11,6 @@ use Rattle.source_put.proofs.Scan.{all-turn, all-stop, all-end}
 use borrow.Author.Needs.{needs}
 use Rattle.source_put.proofs.config.all_known.Statement.{statement}
 use Rattle.source_put.proofs.config.all_known.Tie as tie
-use Rattle.source_put.proofs.config.all_known.Reads as reads
-use Rattle.source_put.proofs.config.all_known.Lts as lts
-use Rattle.source_put.proofs.config.known_action.Reads as known-action-reads
 
 abbrev Inv-loop : tie.InvT-loop
 Inv-loop actions i₀ i = (i ≤ 16) × (length actions ≡ 16) × (allKnown actions ≡ allKnown (drop i actions))
@@ -21,37 +18,29 @@ Inv-loop actions i₀ i = (i ≤ 16) × (length actions ≡ 16) × (allKnown act
 abbrev μ-loop : tie.MeasureT-loop
 μ-loop actions i₀ i = 16 - i
 
--- src/config.rt:116:5
 loop-holds : tie.Need-loop-holds Inv-loop μ-loop
 loop-holds c = (search needs, search needs, refl)
 
--- src/config.rt:117:17
 array-read-a : tie.Need-array-read-a Inv-loop μ-loop
 array-read-a c = search needs
 
--- src/config.rt:118:13
 known-action-requires : tie.Need-known-action-requires Inv-loop μ-loop
 known-action-requires c κs = search needs
 
--- src/config.rt:119:13
 returns : tie.Need-returns Inv-loop μ-loop
 returns c = let l = c .before .before .before .loop in
     all-stop _ (l .i) (omega arith) (search (told, not-true)) ∙ sym (l .inv .2)
 
--- src/config.rt:121:9
 add-i : tie.Need-add-i Inv-loop μ-loop
 add-i c = search needs
 
--- src/config.rt:116:5
 loop-less : tie.Need-loop-less Inv-loop μ-loop
 loop-less c = search needs
 
--- src/config.rt:116:5
 loop-again : tie.Need-loop-again Inv-loop μ-loop
 loop-again c = let l = c .before .before .before .loop in
     (search needs, search needs, l .inv .2 ∙ all-turn _ (l .i) (omega arith) (search (told, not-false)))
 
--- src/config.rt:112:1
 returns-2 : tie.Need-returns-2 Inv-loop μ-loop
 returns-2 c = let l = c .before .loop in
     sym (l .inv .2 ∙ all-end _ (l .i) (omega arith))

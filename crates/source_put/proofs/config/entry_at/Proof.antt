@@ -7,24 +7,18 @@ use Rattle.rules.specs.Put.{noRemote}
 use borrow.Author.Needs.{needs}
 use Rattle.source_put.proofs.config.entry_at.Statement.{statement}
 use Rattle.source_put.proofs.config.entry_at.Tie as tie
-use Rattle.source_put.proofs.config.entry_at.Reads as reads
-use Rattle.source_put.proofs.config.entry_at.Lts as lts
 
--- src/config.rt:61:9
 returns : tie.Need-returns
 returns c =
     let a = c .before .args in
     sym (List·getD-eq-default (a .t1) noRemote {n = a .i} (omega arith))
 
--- src/config.rt:72:5
 mul-result : tie.Need-mul-result
 mul-result c = search needs
 
--- src/config.rt:72:5
 array-copy-out-result : tie.Need-array-copy-out-result
 array-copy-out-result c = search needs
 
--- src/config.rt:57:1
 returns-2 : tie.Need-returns-2
 returns-2 c = search needs
 

@@ -11,9 +11,6 @@ use Rattle.source_put.proofs.Scan.{find-turn, find-stop, find-end}
 use borrow.Author.Needs.{needs}
 use Rattle.source_put.proofs.config.find_in.Statement.{statement}
 use Rattle.source_put.proofs.config.find_in.Tie as tie
-use Rattle.source_put.proofs.config.find_in.Reads as reads
-use Rattle.source_put.proofs.config.find_in.Lts as lts
-use Rattle.source_put.proofs.config.looked_at.Reads as looked-at-reads
 
 abbrev Inv-loop : tie.InvT-loop
 Inv-loop count v remotes n i₀ i = (i ≤ n) × (n ≡ min count 8) × (length remotes ≡ 8) × (findIn (take count remotes) v ≡ i + findIn (drop i (take count remotes)) v)
@@ -21,43 +18,34 @@ Inv-loop count v remotes n i₀ i = (i ≤ n) × (n ≡ min count 8) × (length 
 abbrev μ-loop : tie.MeasureT-loop
 μ-loop count v remotes n i₀ i = n - i
 
--- src/config.rt:36:9
 looked-at-requires : tie.Need-looked-at-requires Inv-loop μ-loop
 looked-at-requires c κs = search needs
 
--- src/config.rt:38:5
 loop-holds : tie.Need-loop-holds Inv-loop μ-loop
 loop-holds c = (search needs, search needs, search needs, sym (zero-add _))
 
--- src/config.rt:39:12
 mul-if1 : tie.Need-mul-if1 Inv-loop μ-loop
 mul-if1 c = search needs
 
--- src/config.rt:39:12
 element-copy-out-if1 : tie.Need-element-copy-out-if1 Inv-loop μ-loop
 element-copy-out-if1 c = search needs
 
--- src/config.rt:40:13
 returns : tie.Need-returns Inv-loop μ-loop
 returns c = let l = c .before .before .loop in
     let a = c .before .before .before .before .args in
     find-stop (a .t1) (a .count) (a .v) (l .i) _ (omega arith) (omega arith) (eq-eqb _ _ (c .if1 .taken)) ∙ sym (l .inv .3)
 
--- src/config.rt:42:9
 add-i : tie.Need-add-i Inv-loop μ-loop
 add-i c = search needs
 
--- src/config.rt:38:5
 loop-less : tie.Need-loop-less Inv-loop μ-loop
 loop-less c = search needs
 
--- src/config.rt:38:5
 loop-again : tie.Need-loop-again Inv-loop μ-loop
 loop-again c = let l = c .before .before .loop in
     let a = c .before .before .before .before .args in
     (search needs, search needs, search needs, l .inv .3 ∙ find-turn (a .t1) (a .count) (a .v) (l .i) _ (omega arith) (omega arith) (ne-eqb _ _ (c .if1 .left)))
 
--- src/config.rt:33:1
 returns-2 : tie.Need-returns-2 Inv-loop μ-loop
 returns-2 c = let l = c .before .loop in
     let a = c .before .before .before .args in

@@ -1,27 +1,21 @@
+-- The entry, then the actions.
+-- Assumes nothing.
 use Rattle.basis.proofs.Pick.{picks, told}
 use Rattle.rules.specs.Put.{goodConfig}
 use borrow.Author.Needs.{needs}
 use Rattle.source_put.proofs.config.good_config.Statement.{statement}
 use Rattle.source_put.proofs.config.good_config.Tie as tie
-use Rattle.source_put.proofs.config.good_config.Reads as reads
-use Rattle.source_put.proofs.config.good_config.Lts as lts
-use Rattle.source_put.proofs.config.all_known.Reads as all-known-reads
-use Rattle.source_put.proofs.config.good_entry.Reads as good-entry-reads
 
--- src/config.rt:142:9
 good-entry-requires : tie.Need-good-entry-requires
 good-entry-requires c κs = search needs
 
--- src/config.rt:143:9
 returns : tie.Need-returns
 unfolding goodConfig
 returns c = search (picks, told) depth 8
 
--- src/config.rt:145:5
 all-known-requires : tie.Need-all-known-requires
 all-known-requires c κs = search needs
 
--- src/config.rt:139:1
 returns-2 : tie.Need-returns-2
 unfolding goodConfig
 returns-2 c = rw (c .all-known .ensures) (search (picks, told) depth 8)

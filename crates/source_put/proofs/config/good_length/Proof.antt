@@ -1,16 +1,14 @@
+-- The tests are the definition's.
+-- Assumes nothing.
 use Rattle.basis.proofs.Pick.{picks}
 use Rattle.rules.specs.Put.{goodLength}
 use Rattle.source_put.proofs.config.good_length.Statement.{statement}
 use Rattle.source_put.proofs.config.good_length.Tie as tie
-use Rattle.source_put.proofs.config.good_length.Reads as reads
-use Rattle.source_put.proofs.config.good_length.Lts as lts
 
--- src/config.rt:152:9
 returns : tie.Need-returns
 unfolding goodLength
 returns c = search picks depth 8
 
--- src/config.rt:148:1
 returns-2 : tie.Need-returns-2
 unfolding goodLength
 returns-2 c = search picks depth 8

@@ -1,16 +1,13 @@
+-- By the entries that are looked at.
+-- Assumes nothing.
 use Rattle.rules.specs.Put.{isFound, entries}
 use borrow.Author.Needs.{needs}
 use Rattle.source_put.proofs.config.is_found.Statement.{statement}
 use Rattle.source_put.proofs.config.is_found.Tie as tie
-use Rattle.source_put.proofs.config.is_found.Reads as reads
-use Rattle.source_put.proofs.config.is_found.Lts as lts
-use Rattle.source_put.proofs.config.found_in.Reads as found-in-reads
 
--- src/config.rt:59:5
 found-in-requires : tie.Need-found-in-requires
 found-in-requires c κs = search needs
 
--- src/config.rt:55:1
 returns : tie.Need-returns
 unfolding isFound entries
 returns c = c .found-in .ensures

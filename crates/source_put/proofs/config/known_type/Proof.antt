@@ -1,26 +1,22 @@
+-- The tests are the definition's.
+-- Assumes nothing.
 use Rattle.basis.proofs.Pick.{picks}
 use Rattle.rules.specs.Put.{knownType}
 use Rattle.source_put.proofs.config.known_type.Statement.{statement}
 use Rattle.source_put.proofs.config.known_type.Tie as tie
-use Rattle.source_put.proofs.config.known_type.Reads as reads
-use Rattle.source_put.proofs.config.known_type.Lts as lts
 
--- src/config.rt:88:9
 returns : tie.Need-returns
 unfolding knownType
 returns c = search picks depth 8
 
--- src/config.rt:91:9
 returns-2 : tie.Need-returns-2
 unfolding knownType
 returns-2 c = search picks depth 8
 
--- src/config.rt:94:9
 returns-3 : tie.Need-returns-3
 unfolding knownType
 returns-3 c = search picks depth 8
 
--- src/config.rt:84:1
 returns-4 : tie.Need-returns-4
 unfolding knownType
 returns-4 c = search picks depth 8

@@ -5,25 +5,19 @@ use Rattle.rules.specs.Numbers.{fits, goodWidth}
 use Rattle.source_put.proofs.Widths.{fits-last}
 use Rattle.source_put.proofs.numbers.fits.Statement.{statement}
 use Rattle.source_put.proofs.numbers.fits.Tie as tie
-use Rattle.source_put.proofs.numbers.fits.Reads as reads
-use Rattle.source_put.proofs.numbers.fits.Lts as lts
 
--- src/numbers.rt:15:9
 returns : tie.Need-returns
 unfolding fits goodWidth
 returns c = rw (c .if1 .taken)
 
--- src/numbers.rt:18:9
 returns-2 : tie.Need-returns-2
 unfolding fits goodWidth
 returns-2 c = rw (c .if2 .taken)
 
--- src/numbers.rt:21:9
 returns-3 : tie.Need-returns-3
 unfolding fits goodWidth
 returns-3 c = rw (c .if3 .taken)
 
--- src/numbers.rt:11:1
 returns-4 : tie.Need-returns-4
 returns-4 c = fits-last _ (c .before .before .if1 .left) (c .before .if2 .left) (c .if3 .left) _ (omega arith)
 

@@ -1,11 +1,10 @@
+-- The test is the definition's.
+-- Assumes nothing.
 use mathlib.Core.Path.{refl}
 use Rattle.rules.specs.Numbers.{isLarge}
 use Rattle.source_put.proofs.numbers.is_large.Statement.{statement}
 use Rattle.source_put.proofs.numbers.is_large.Tie as tie
-use Rattle.source_put.proofs.numbers.is_large.Reads as reads
-use Rattle.source_put.proofs.numbers.is_large.Lts as lts
 
--- src/numbers.rt:47:1
 returns : tie.Need-returns
 unfolding isLarge
 returns c = refl

@@ -1,16 +1,14 @@
+-- The test is the definition's.
+-- Assumes nothing.
 use Rattle.basis.proofs.Pick.{picks}
 use Rattle.rules.specs.Numbers.{larger}
 use Rattle.source_put.proofs.numbers.larger.Statement.{statement}
 use Rattle.source_put.proofs.numbers.larger.Tie as tie
-use Rattle.source_put.proofs.numbers.larger.Reads as reads
-use Rattle.source_put.proofs.numbers.larger.Lts as lts
 
--- src/numbers.rt:26:1
 returns : tie.Need-returns
 unfolding larger
 returns c = search picks depth 6
 
--- src/numbers.rt:26:1
 returns-2 : tie.Need-returns-2
 unfolding larger
 returns-2 c = search picks depth 6

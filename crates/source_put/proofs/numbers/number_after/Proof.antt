@@ -6,27 +6,19 @@ use Rattle.source_put.proofs.Widths.{eight, number-after}
 use borrow.Author.Needs.{needs}
 use Rattle.source_put.proofs.numbers.number_after.Statement.{statement}
 use Rattle.source_put.proofs.numbers.number_after.Tie as tie
-use Rattle.source_put.proofs.numbers.number_after.Reads as reads
-use Rattle.source_put.proofs.numbers.number_after.Lts as lts
-use Rattle.std.proofs.num.wrapping_add_u64.Reads as wrapping-add-u64-reads
 
--- src/numbers.rt:38:9
 wrapping-add-u64-requires : tie.Need-wrapping-add-u64-requires
 wrapping-add-u64-requires c κs = search needs
 
--- src/numbers.rt:33:1
 returns : tie.Need-returns
 returns c = number-after _ 56 1 _ (c .match .keys1) (c .before .wrapping-add-u64 .ensures)
 
--- src/numbers.rt:33:1
 returns-2 : tie.Need-returns-2
 returns-2 c = number-after _ 48 2 _ (c .match .keys2) (c .before .wrapping-add-u64 .ensures)
 
--- src/numbers.rt:33:1
 returns-3 : tie.Need-returns-3
 returns-3 c = number-after _ 32 4 _ (c .match .keys3) (c .before .wrapping-add-u64 .ensures)
 
--- src/numbers.rt:33:1
 returns-4 : tie.Need-returns-4
 unfolding numberAfter
 returns-4 c =

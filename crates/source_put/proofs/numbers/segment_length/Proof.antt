@@ -5,25 +5,18 @@ use Rattle.rules.specs.Numbers.{segmentLength}
 use borrow.Author.Needs.{needs}
 use Rattle.source_put.proofs.numbers.segment_length.Statement.{statement}
 use Rattle.source_put.proofs.numbers.segment_length.Tie as tie
-use Rattle.source_put.proofs.numbers.segment_length.Reads as reads
-use Rattle.source_put.proofs.numbers.segment_length.Lts as lts
-use Rattle.source_put.proofs.numbers.overhead.Reads as overhead-reads
 
--- src/numbers.rt:67:9
 overhead-requires : tie.Need-overhead-requires
 overhead-requires c κs = search needs
 
--- src/numbers.rt:69:9
 returns : tie.Need-returns
 unfolding segmentLength
 returns c = omega arith
 
--- src/numbers.rt:64:1
 returns-2 : tie.Need-returns-2
 unfolding segmentLength
 returns-2 c = omega arith
 
--- src/numbers.rt:64:1
 returns-3 : tie.Need-returns-3
 unfolding segmentLength
 returns-3 c = omega arith

@@ -5,59 +5,42 @@ use Rattle.basis.proofs.Pick.{picks, told}
 use borrow.Author.Needs.{needs}
 use Rattle.source_put.proofs.start.entry_answer.Statement.{statement}
 use Rattle.source_put.proofs.start.entry_answer.Tie as tie
-use Rattle.source_put.proofs.start.entry_answer.Reads as reads
-use Rattle.source_put.proofs.start.entry_answer.Lts as lts
-use Rattle.source_put.proofs.config.good_config.Reads as good-config-reads
-use Rattle.source_put.proofs.config.good_lengths.Reads as good-lengths-reads
-use Rattle.source_put.proofs.start.too_long.Reads as too-long-reads
-use Rattle.utf8.proofs.is_utf8.Reads as is-utf8-reads
 
--- src/start.rt:95:9
 good-config-requires : tie.Need-good-config-requires
 good-config-requires c κs = search needs
 
--- src/start.rt:96:9
 returns : tie.Need-returns
 unfolding entryAnswer
 returns c = search (picks, told) depth 14
 
--- src/start.rt:98:9
 good-lengths-requires : tie.Need-good-lengths-requires
 good-lengths-requires c κs = search needs
 
--- src/start.rt:99:9
 returns-2 : tie.Need-returns-2
 unfolding entryAnswer
 returns-2 c = search (picks, told) depth 14
 
--- src/start.rt:101:9
 is-utf8-requires : tie.Need-is-utf8-requires
 is-utf8-requires c κs = search needs
 
--- src/start.rt:102:9
 returns-3 : tie.Need-returns-3
 unfolding entryAnswer
 returns-3 c = search (picks, told) depth 14
 
--- src/start.rt:104:9
 is-utf8-requires-2 : tie.Need-is-utf8-requires-2
 is-utf8-requires-2 c κs = search needs
 
--- src/start.rt:105:9
 returns-4 : tie.Need-returns-4
 unfolding entryAnswer
 returns-4 c = rw (← (c .before .is-utf82 .ensures), ← (c .before .before .before .is-utf8 .ensures), ← (c .before .before .before .before .before .good-lengths .ensures), ← (c .before .before .before .before .before .before .before .good-config .ensures)) (search picks depth 10)
 
--- src/start.rt:107:8
 too-long-requires : tie.Need-too-long-requires
 too-long-requires c κs = search needs
 
--- src/start.rt:108:9
 returns-5 : tie.Need-returns-5
 unfolding entryAnswer
 returns-5 c = rw (← (c .before .too-long .ensures), ← (c .before .before .before .is-utf82 .ensures), ← (c .before .before .before .before .before .is-utf8 .ensures), ← (c .before .before .before .before .before .before .before .good-lengths .ensures), ← (c .before .before .before .before .before .before .before .before .before .good-config .ensures)) (search picks depth 10)
 
--- src/start.rt:86:1
 returns-6 : tie.Need-returns-6
 unfolding entryAnswer
 returns-6 c = rw (← (c .before .too-long .ensures), ← (c .before .before .before .is-utf82 .ensures), ← (c .before .before .before .before .before .is-utf8 .ensures), ← (c .before .before .before .before .before .before .before .good-lengths .ensures), ← (c .before .before .before .before .before .before .before .before .before .good-config .ensures)) (search picks depth 10)
