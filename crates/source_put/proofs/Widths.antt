@@ -1,6 +1,6 @@
 -- The widths that a number may have, what fits each, and the number that comes next.
 -- Assumes nothing.
-use mathlib.Core.Path.{_≡_, refl, ap, _∙_}
+use mathlib.Core.Path.{_≡_, refl}
 use mathlib.Core.Bool.{Bool, true, false}
 use Prim.Native.Nat.{ℕ, _+_, _*_, _%_, _^_, _<_}
 use borrow.Author.Tests.{eqb-true, ne-eqb, lt-ltb}

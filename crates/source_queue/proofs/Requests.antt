@@ -11,7 +11,6 @@ use borrow.Author.Tests.{leb-true, leb-false}
 use lib.Dec.{leb}
 use lib.ListN.{length}
 use Rattle.basis.specs.Pick.{pick, flag}
-use Rattle.basis.specs.Bytes.{numAt}
 use Rattle.basis.proofs.Bytes.{num-past}
 use Rattle.rules.specs.Numbers.{F}
 use Rattle.rules.specs.States.{blank}

@@ -32,18 +32,35 @@ is-utf8-requires-2 c κs = search needs
 
 returns-4 : tie.Need-returns-4
 unfolding entryAnswer
-returns-4 c = rw (← (c .before .is-utf82 .ensures), ← (c .before .before .before .is-utf8 .ensures), ← (c .before .before .before .before .before .good-lengths .ensures), ← (c .before .before .before .before .before .before .before .good-config .ensures)) (search picks depth 10)
+returns-4 c =
+    let d = c .before in
+    let s = d .before .before in
+    let l = s .before .before in
+    let g = l .before .before in
+    rw (← (d .is-utf82 .ensures), ← (s .is-utf8 .ensures), ← (l .good-lengths .ensures), ← (g .good-config .ensures)) (search picks depth 10)
 
 too-long-requires : tie.Need-too-long-requires
 too-long-requires c κs = search needs
 
 returns-5 : tie.Need-returns-5
 unfolding entryAnswer
-returns-5 c = rw (← (c .before .too-long .ensures), ← (c .before .before .before .is-utf82 .ensures), ← (c .before .before .before .before .before .is-utf8 .ensures), ← (c .before .before .before .before .before .before .before .good-lengths .ensures), ← (c .before .before .before .before .before .before .before .before .before .good-config .ensures)) (search picks depth 10)
+returns-5 c =
+    let t = c .before in
+    let d = t .before .before in
+    let s = d .before .before in
+    let l = s .before .before in
+    let g = l .before .before in
+    rw (← (t .too-long .ensures), ← (d .is-utf82 .ensures), ← (s .is-utf8 .ensures), ← (l .good-lengths .ensures), ← (g .good-config .ensures)) (search picks depth 10)
 
 returns-6 : tie.Need-returns-6
 unfolding entryAnswer
-returns-6 c = rw (← (c .before .too-long .ensures), ← (c .before .before .before .is-utf82 .ensures), ← (c .before .before .before .before .before .is-utf8 .ensures), ← (c .before .before .before .before .before .before .before .good-lengths .ensures), ← (c .before .before .before .before .before .before .before .before .before .good-config .ensures)) (search picks depth 10)
+returns-6 c =
+    let t = c .before in
+    let d = t .before .before in
+    let s = d .before .before in
+    let l = s .before .before in
+    let g = l .before .before in
+    rw (← (t .too-long .ensures), ← (d .is-utf82 .ensures), ← (s .is-utf8 .ensures), ← (l .good-lengths .ensures), ← (g .good-config .ensures)) (search picks depth 10)
 
 pub entry-answer-spec : {M : Type 1} → statement M
 entry-answer-spec =

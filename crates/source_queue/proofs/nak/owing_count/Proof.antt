@@ -1,6 +1,6 @@
 -- What was counted, and what the rest owes, is what all of them owe.
 -- Assumes nothing.
-use mathlib.Core.Path.{_≡_, sym, ap, _∙_}
+use mathlib.Core.Path.{_≡_, sym, _∙_}
 use Prim.Native.Nat.{_+_, _≤_}
 use Rattle.rules.specs.Reading.{requestsFrom}
 use Rattle.rules.specs.Queues.{owing}

@@ -1,6 +1,6 @@
 -- The rest of the requests pushed behind what is there gives what all of them give.
 -- Assumes nothing.
-use mathlib.Core.Path.{_≡_, sym, ap, _∙_}
+use mathlib.Core.Path.{_≡_, sym, _∙_}
 use Rattle.rules.specs.Reading.{requestsFrom}
 use Rattle.rules.specs.Queues.{pushAll}
 use Rattle.source_queue.proofs.Requests.{push-turn, push-end}
