@@ -33,7 +33,7 @@ modular s = modularFrom 0 s
 -- stated once over the polynomial
 
 -- a number's n lowest bits in the other order, behind r
-abbrev pub reversed : ℕ → ℕ → ℕ → ℕ
+unfoldable pub reversed : ℕ → ℕ → ℕ → ℕ
 reversed zero p r = r
 reversed (suc n) p r = reversed n (p / 2) (r * 2 + p % 2)
 

@@ -1,0 +1,24 @@
+-- One word of the modular checksum at a place, then the rest behind it: by the number of bytes that are left.
+-- Assumes nothing.
+use mathlib.Core.Path.{_≡_, refl}
+use mathlib.Core.List.{List, [], _∷_}
+use Prim.Native.Nat.{ℕ, _+_, _<_}
+use native.Mathlib.Nat.{add-zero, not-suc-le-zero}
+use native.Mathlib.Omega.{arith}
+use lib.ListN.{length, getD, drop, length-drop}
+use lib.Seq.{drop-drop, getD-drop}
+use Rattle.rules.specs.Checksum.{word, more, modularFrom}
+
+first-word : (sum : ℕ) (t : List ℕ) → 0 < length t
+    → modularFrom (more sum (word (getD t 0 0) (getD t 1 0) (getD t 2 0) (getD t 3 0))) (drop 4 t) ≡ modularFrom sum t
+first-word sum [] h = absurd (not-suc-le-zero h)
+first-word sum (a ∷ []) h = refl
+first-word sum (a ∷ b ∷ []) h = refl
+first-word sum (a ∷ b ∷ c ∷ []) h = refl
+first-word sum (a ∷ b ∷ c ∷ d ∷ s) h = refl
+
+pub word-step : (sum : ℕ) (s : List ℕ) (i : ℕ) → i < length s
+    → modularFrom (more sum (word (getD s i 0) (getD s (i + 1) 0) (getD s (i + 2) 0) (getD s (i + 3) 0))) (drop (i + 4) s) ≡ modularFrom sum (drop i s)
+word-step sum s i h =
+    let k : 0 < length (drop i s) = simp length-drop (omega arith) in
+    simp (getD-drop, drop-drop, add-zero) at (first-word sum (drop i s) k)
