@@ -1,0 +1,79 @@
+// The events of each case, one record in their fixed order.
+use rules::State;
+use rules::Due;
+use rules::Events;
+use rules::TransactionId;
+use rules::FaultEvent;
+use rules::FinishedEvent;
+use rules::FinishedParams;
+use rules::TimerEvent;
+ghost use mathlib.Core.Path.{_≡_};
+ghost use mathlib.Core.Bool.{false};
+ghost use Rattle.rules.specs.Step.{events, quiet, finishedIf, ackTimer, eofTimer, eofFinished, unreported, eventsOf};
+
+fn noting(s: State, transaction: bool, eofsent: bool, fault: FaultEvent, finished: FinishedEvent, timer: TimerEvent) -> Events
+    ensures { λ r. ⌜ r ≡ events s transaction eofsent fault finished timer ⌝ }
+{
+    let source = s.fixed.head.source;
+    let number = s.fixed.head.number;
+    let id = TransactionId(source, number);
+    Events { id: id, transaction: transaction, eofsent: eofsent, fault: fault, finished: finished, timer: timer }
+}
+
+pub fn quiet(s: State) -> Events
+    ensures { λ r. ⌜ r ≡ quiet s ⌝ }
+{
+    noting(s, false, false, FaultEvent::NoFault, FinishedEvent::NotFinished, TimerEvent::NoTimer)
+}
+
+// A finished event, if the configuration's flag is set.
+fn notice_of_completion(s: State, p: FinishedParams) -> FinishedEvent
+    ensures { λ r. ⌜ r ≡ finishedIf s p ⌝ }
+{
+    if s.fixed.finished {
+        return FinishedEvent::Finished(p);
+    }
+    FinishedEvent::NotFinished
+}
+
+// The ack timer of an EOF that waits for its ACK.
+fn ack_timer(s: State) -> TimerEvent
+    ensures { λ r. ⌜ r ≡ ackTimer s ⌝ }
+{
+    if s.fixed.head.unacknowledged {
+        return TimerEvent::NoTimer;
+    }
+    TimerEvent::AckTimer
+}
+
+fn eof_timer(s: State) -> TimerEvent
+    ensures { λ r. ⌜ r ≡ eofTimer s ⌝ }
+{
+    if !s.fixed.head.unacknowledged {
+        return TimerEvent::AckTimer;
+    }
+    if s.fixed.closure {
+        return TimerEvent::CheckTimer;
+    }
+    TimerEvent::NoTimer
+}
+
+// Unacknowledged without closure the EOF is the end: no error, complete, unreported.
+fn eof_finished(s: State) -> FinishedEvent
+    ensures { λ r. ⌜ r ≡ eofFinished s ⌝ }
+{
+    if !s.fixed.head.unacknowledged {
+        return FinishedEvent::NotFinished;
+    }
+    if s.fixed.closure {
+        return FinishedEvent::NotFinished;
+    }
+    let unreported = FinishedParams { condition: 0, delivery: 0, status: 3 };
+    notice_of_completion(s, unreported)
+}
+
+fn eof_sent(s: State, fault: FaultEvent, finished: FinishedEvent, timer: TimerEvent) -> Events
+    ensures { λ r. ⌜ r ≡ events s false (s .fixed .eofsent) fault finished timer ⌝ }
+{
+    noting(s, false, s.fixed.eofsent, fault, finished, timer)
+}
