@@ -3,7 +3,7 @@
 use mathlib.Core.Path.{_≡_}
 use mathlib.Core.Logic.{_↔_}
 use mathlib.Core.Bool.{Bool, true, false}
-use mathlib.Core.List.{List, [], _∷_, _++_}
+use mathlib.Core.List.{List, [], _∷_, _++_, map, flatMap}
 use Prim.Native.Nat.{ℕ, _≤_}
 use lib.Dec.{ltb}
 use Rattle.basis.specs.Pick.{pick}
@@ -86,3 +86,51 @@ isUtf8 s = complete (dueAfter (wants []) s)
 -- PROMISE utf8: the test says yes exactly to what the RFC's grammar derives.
 abbrev pub Utf8Exactly : Type 0
 Utf8Exactly = (s : List ℕ) → (isUtf8 s ≡ true) ↔ Utf8 s
+
+-- ---- cases: grammar and test share the table above, so its numbers are held by what they must take and refuse
+
+-- the first and the last of each of the nine forms, none, and one of each length in a row
+abbrev pub wellFormed : List (List ℕ)
+wellFormed =
+    []
+    ∷ (0x00 ∷ []) ∷ (0x7F ∷ [])
+    ∷ (0xC2 ∷ 0x80 ∷ []) ∷ (0xDF ∷ 0xBF ∷ [])
+    ∷ (0xE0 ∷ 0xA0 ∷ 0x80 ∷ []) ∷ (0xE0 ∷ 0xBF ∷ 0xBF ∷ [])
+    ∷ (0xE1 ∷ 0x80 ∷ 0x80 ∷ []) ∷ (0xEC ∷ 0xBF ∷ 0xBF ∷ [])
+    ∷ (0xED ∷ 0x80 ∷ 0x80 ∷ []) ∷ (0xED ∷ 0x9F ∷ 0xBF ∷ [])
+    ∷ (0xEE ∷ 0x80 ∷ 0x80 ∷ []) ∷ (0xEF ∷ 0xBF ∷ 0xBF ∷ [])
+    ∷ (0xF0 ∷ 0x90 ∷ 0x80 ∷ 0x80 ∷ []) ∷ (0xF0 ∷ 0xBF ∷ 0xBF ∷ 0xBF ∷ [])
+    ∷ (0xF1 ∷ 0x80 ∷ 0x80 ∷ 0x80 ∷ []) ∷ (0xF3 ∷ 0xBF ∷ 0xBF ∷ 0xBF ∷ [])
+    ∷ (0xF4 ∷ 0x80 ∷ 0x80 ∷ 0x80 ∷ []) ∷ (0xF4 ∷ 0x8F ∷ 0xBF ∷ 0xBF ∷ [])
+    ∷ (0x61 ∷ 0xC3 ∷ 0xA9 ∷ 0xE2 ∷ 0x82 ∷ 0xAC ∷ 0xF0 ∷ 0x9F ∷ 0x98 ∷ 0x80 ∷ [])
+    ∷ []
+
+abbrev pub illFormed : List (List ℕ)
+illFormed =
+    -- M12
+    (0xC0 ∷ 0x80 ∷ []) ∷ (0xED ∷ 0xA0 ∷ 0x80 ∷ [])
+    -- overlong: the last that a shorter form holds
+    ∷ (0xC1 ∷ 0xBF ∷ []) ∷ (0xE0 ∷ 0x9F ∷ 0xBF ∷ []) ∷ (0xF0 ∷ 0x8F ∷ 0xBF ∷ 0xBF ∷ [])
+    -- the last surrogate; the first above U+10FFFF, two ways
+    ∷ (0xED ∷ 0xBF ∷ 0xBF ∷ []) ∷ (0xF4 ∷ 0x90 ∷ 0x80 ∷ 0x80 ∷ []) ∷ (0xF5 ∷ 0x80 ∷ 0x80 ∷ 0x80 ∷ [])
+    -- what begins no character
+    ∷ (0x80 ∷ []) ∷ (0xBF ∷ []) ∷ (0xFF ∷ [])
+    -- cut short; one tail too many
+    ∷ (0xC2 ∷ []) ∷ (0xE1 ∷ 0x80 ∷ []) ∷ (0xF1 ∷ 0x80 ∷ 0x80 ∷ []) ∷ (0xC2 ∷ 0x80 ∷ 0x80 ∷ [])
+    ∷ []
+
+-- x in place of one byte, at each place; no tail where one is due, from below and from above
+abbrev pub withOne : ℕ → List ℕ → List (List ℕ)
+withOne x [] = []
+withOne x (b ∷ s) = (x ∷ s) ∷ map (λ t. b ∷ t) (withOne x s)
+
+abbrev pub tailless : List ℕ → List (List ℕ)
+tailless [] = []
+tailless (b ∷ s) = map (λ t. b ∷ t) (withOne 0x7F s ++ withOne 0xC0 s)
+
+abbrev pub each : Bool → List (List ℕ) → Type 0
+each a l = map isUtf8 l ≡ map (λ s. a) l
+
+-- PROMISE utf8-cases: the test takes all of wellFormed, and nothing of illFormed or of wellFormed with a tail spoilt.
+abbrev pub Utf8Cases : Type 0
+Utf8Cases = each true wellFormed × each false illFormed × each false (flatMap tailless wellFormed)

@@ -1,0 +1,18 @@
+use Rattle.rules.specs.Queues.{oldest}
+use borrow.Author.Needs.{needs}
+use Rattle.source_queue.proofs.queue.oldest.Statement.{statement}
+use Rattle.source_queue.proofs.queue.oldest.Tie as tie
+use Rattle.source_queue.proofs.queue.oldest.Reads as reads
+use Rattle.source_queue.proofs.queue.oldest.Lts as lts
+
+-- src/queue.rt:98:5
+element-copy-out-result : tie.Need-element-copy-out-result
+element-copy-out-result c = search needs
+
+-- src/queue.rt:95:1
+returns : tie.Need-returns
+unfolding oldest
+returns c = search needs
+
+pub oldest-spec : {M : Type 1} → statement M
+oldest-spec = tie.close (tie.spec element-copy-out-result returns)
