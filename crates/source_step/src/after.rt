@@ -1,11 +1,17 @@
 // The state after each case.
+use super::sending::next_length;
 use super::state;
 use rules::Eof;
 use rules::State;
 use rules::TransactionStep;
 use rules::Due;
+use source_queue::queue;
 ghost use mathlib.Core.Path.{_≡_};
-ghost use Rattle.rules.specs.Step.{nextLength, afterCancelEof, afterMetadata, afterData, afterEof};
+ghost use Prim.Native.Nat.{_+_, _<_};
+ghost use Rattle.rules.specs.States.{withQueue, withMarks, counted};
+ghost use Rattle.rules.specs.Queues.{served};
+ghost use Rattle.rules.specs.Step.{afterCancelEof, afterMetadata, afterData, afterEof};
+ghost use Rattle.source_step.specs.Once.{afterWith, Countable};
 
 // 1: the EOF of a cancel is the end, or waits for its ACK.
 fn notice_of_cancellation(s: State, e: Eof) -> State
@@ -38,4 +44,53 @@ fn after_eof(s: State, e: Eof) -> State
         return state::to_step(state::keeping(s, e), TransactionStep::WaitingForFinished);
     }
     state::idle(s.number)
+}
+
+// 4
+fn after_data(s: State) -> State
+    ensures { λ r. ⌜ r ≡ afterData s ⌝ }
+{
+    let p = s.file.progress + next_length(s);
+    if p == s.fixed.size {
+        return state::to_step(state::onward(s, p), TransactionStep::SendingEof);
+    }
+    state::onward(s, p)
+}
+
+// 2: the request's rest, or its place free; progress stays.
+fn after_repair(s: State) -> State
+    ensures { λ r. ⌜ r ≡ withQueue s (served (s .fixed .segment) (s .queue)) ⌝ }
+{
+    let queue = queue::served(s.fixed.segment, s.queue);
+    let mut t = s;
+    t.queue = queue;
+    t
+}
+
+// 6
+fn after_eof_again(s: State) -> State
+    requires { ⌜ s .marks .count < 255 ⌝ }
+    ensures { λ r. ⌜ r ≡ withMarks s (counted (s .marks) (s .marks .count + 1)) ⌝ }
+{
+    state::counted(s, s.marks.count + 1)
+}
+
+// `e` is the EOF that left, if one did.
+pub fn after_of(s: State, e: Eof, d: Due) -> State
+    requires { ⌜ Countable s d ⌝ }
+    ensures { λ r. ⌜ r ≡ afterWith s e d ⌝ }
+{
+    match d {
+        Due::CancelEof => notice_of_cancellation(s, e),
+        Due::Repair => after_repair(s),
+        Due::Metadata => after_metadata(s),
+        Due::Data => after_data(s),
+        Due::NoErrorEof => after_eof(s, e),
+        Due::EofAgain => after_eof_again(s),
+        Due::FaultCancel(c) => notice_of_cancellation(state::marked(s, c), e),
+        Due::FaultIgnore(_) => state::counted(s, 0),
+        Due::FaultAbandon(_) => state::idle(s.number),
+        Due::Close => state::idle(s.number),
+        Due::Nothing => s,
+    }
 }

@@ -10,6 +10,9 @@ use rules::TimerEvent;
 ghost use mathlib.Core.Path.{_≡_};
 ghost use mathlib.Core.Bool.{false};
 ghost use Rattle.rules.specs.Step.{events, quiet, finishedIf, ackTimer, eofTimer, eofFinished, unreported, eventsOf};
+ghost use Rattle.rules.specs.declared.FaultEvent.the-variants.{NoFault, Fault};
+ghost use Rattle.rules.specs.declared.FinishedEvent.the-variants.{NotFinished};
+ghost use Rattle.rules.specs.declared.TimerEvent.the-variants.{NoTimer};
 
 fn noting(s: State, transaction: bool, eofsent: bool, fault: FaultEvent, finished: FinishedEvent, timer: TimerEvent) -> Events
     ensures { λ r. ⌜ r ≡ events s transaction eofsent fault finished timer ⌝ }
@@ -76,4 +79,11 @@ fn eof_sent(s: State, fault: FaultEvent, finished: FinishedEvent, timer: TimerEv
     ensures { λ r. ⌜ r ≡ events s false (s .fixed .eofsent) fault finished timer ⌝ }
 {
     noting(s, false, s.fixed.eofsent, fault, finished, timer)
+}
+
+fn fault_only(s: State, action: u8, condition: u8) -> Events
+    ensures { λ r. ⌜ r ≡ events s false false (Fault action condition (s .file .progress)) NotFinished NoTimer ⌝ }
+{
+    let fault = FaultEvent::Fault { action: action, condition: condition, progress: s.file.progress };
+    noting(s, false, false, fault, FinishedEvent::NotFinished, TimerEvent::NoTimer)
 }

@@ -3,7 +3,9 @@
 mod after;
 mod cancelling;
 mod due;
+mod emit;
 mod events;
+mod sending;
 mod state;
 
 use rules::EntityId;
