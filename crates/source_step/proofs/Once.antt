@@ -1,4 +1,4 @@
--- The EOF taken from the PDU is the one that the definition computes again; and the expiry count that a step moves stays a byte.
+-- The EOF taken from the PDU is the one that the definition computes again; and the expiry count that a step moves was below the limit.
 -- Assumes nothing.
 use mathlib.Core.Path.{_≡_, refl}
 use mathlib.Core.Bool.{Bool, true, false}
@@ -6,15 +6,22 @@ use mathlib.Core.List.{List}
 use Prim.Native.Nat.{ℕ, _+_, _<_}
 use native.Mathlib.Omega.{arith}
 use lib.Dec.{eqb, leb, ltb}
+use lib.ListN.{length}
 use borrow.Author.Tests.{leb-false}
 use Rattle.basis.proofs.Pick.{cases}
-use Rattle.rules.specs.Step.{actionFor, faultDue, ackExpired, checkExpired, dueAt, eofOwed, dueOf, sendingOf, afterOf}
+use Rattle.rules.specs.Layout.{writtenOf}
+use Rattle.rules.specs.Step.{actionFor, faultDue, ackExpired, checkExpired, dueAt, eofOwed, dueOf, sendingOf, bytesFor, afterOf, eventsOf, refusedStep, made}
 use Rattle.rules.specs.declared.State.{State}
 use Rattle.rules.specs.declared.TransactionStep.{TransactionStep}
 use Rattle.rules.specs.declared.TransactionStep.the-variants.{Idle, SendingMetadata, SendingFileData, SendingEof, WaitingForEofAck, WaitingForFinished, Closing}
 use Rattle.rules.specs.declared.Due.{Due}
 use Rattle.rules.specs.declared.Due.the-variants.{CancelEof, Repair, Metadata, Data, NoErrorEof, EofAgain, FaultCancel, FaultIgnore, FaultAbandon, Close, Nothing}
-use Rattle.source_step.specs.Once.{eofIn, afterWith, Countable}
+use Rattle.rules.specs.declared.Sending.{Sending}
+use Rattle.rules.specs.declared.Written.the-variants.{Short, Wrote}
+use Rattle.rules.specs.declared.Refusal.the-variants.{OutTooSmall}
+use Rattle.rules.specs.declared.Answer.the-variants.{Accepted}
+use Rattle.source_step.proofs.Written.{on-short, on-wrote}
+use Rattle.source_step.specs.Once.{eofIn, afterWith, acceptedStep, Countable}
 
 pub after-once : (s : State) (file : List ℕ) (d : Due) → afterWith s (eofIn (sendingOf s file d)) d ≡ afterOf s file d
 after-once s file CancelEof = refl
@@ -29,7 +36,21 @@ after-once s file (FaultAbandon c) = refl
 after-once s file Close = refl
 after-once s file Nothing = refl
 
-module _ (s : State) (expired : Bool) (byte : s .fixed .limit < 256) where
+-- what a writer answered, as the definition's test of the room
+pub made-short : (s : State) (file : List ℕ) (d : Due) (p : Sending) (out : List ℕ) → p ≡ sendingOf s file d → Short ≡ writtenOf (bytesFor s file p) out
+    → refusedStep s OutTooSmall ≡ made s file d (length out)
+unfolding made
+made-short s file d p out e w = on-short (bytesFor s file (sendingOf s file d)) out _ _ (rw e at w)
+
+pub made-wrote : (s : State) (file : List ℕ) (d : Due) (p : Sending) (out : List ℕ) (n : ℕ) → p ≡ sendingOf s file d → Wrote n ≡ writtenOf (bytesFor s file p) out
+    → acceptedStep s p d n ≡ made s file d (length out)
+unfolding made
+made-wrote s file d p out n e w =
+    rw (e, after-once s file d)
+    (on-wrote (bytesFor s file (sendingOf s file d)) out n _
+    (λ (k : ℕ). record { answer = Accepted; length = k; events = eventsOf s d; state = afterOf s file d }) (rw e at w))
+
+module _ (s : State) (expired : Bool) where
   fault : (condition : ℕ) → Countable s (faultDue s condition)
   unfolding faultDue
   fault k =

@@ -1,17 +1,19 @@
 // The state after each case.
 use super::sending::next_length;
 use super::state;
+use super::state::no_eof;
 use rules::Eof;
 use rules::State;
 use rules::TransactionStep;
 use rules::Due;
+use rules::Sending;
 use source_queue::queue;
 ghost use mathlib.Core.Path.{_≡_};
 ghost use Prim.Native.Nat.{_+_, _<_};
 ghost use Rattle.rules.specs.States.{withQueue, withMarks, counted};
 ghost use Rattle.rules.specs.Queues.{served};
 ghost use Rattle.rules.specs.Step.{afterCancelEof, afterMetadata, afterData, afterEof};
-ghost use Rattle.source_step.specs.Once.{afterWith, Countable};
+ghost use Rattle.source_step.specs.Once.{eofIn, afterWith, Countable};
 
 // 1: the EOF of a cancel is the end, or waits for its ACK.
 fn notice_of_cancellation(s: State, e: Eof) -> State
@@ -69,10 +71,23 @@ fn after_repair(s: State) -> State
 
 // 6
 fn after_eof_again(s: State) -> State
-    requires { ⌜ s .marks .count < 255 ⌝ }
+    requires { ⌜ s .marks .count + 1 < s .fixed .limit ⌝ }
     ensures { λ r. ⌜ r ≡ withMarks s (counted (s .marks) (s .marks .count + 1)) ⌝ }
 {
     state::counted(s, s.marks.count + 1)
+}
+
+// The EOF that a PDU holds.
+pub fn eof_in(p: Sending) -> Eof
+    ensures { λ r. ⌜ r ≡ eofIn p ⌝ }
+{
+    match p {
+        Sending::Nothing => no_eof(),
+        Sending::Metadata => no_eof(),
+        Sending::FileData { offset: _, length: _ } => no_eof(),
+        Sending::Eof(e) => e,
+        Sending::AckFinished(_) => no_eof(),
+    }
 }
 
 // `e` is the EOF that left, if one did.

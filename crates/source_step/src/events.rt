@@ -81,9 +81,42 @@ fn eof_sent(s: State, fault: FaultEvent, finished: FinishedEvent, timer: TimerEv
     noting(s, false, s.fixed.eofsent, fault, finished, timer)
 }
 
+// 8: the Finished PDU's values.
+fn closed(s: State) -> Events
+    ensures { λ r. ⌜ r ≡ events s false false NoFault (finishedIf s (s .marks .finished)) NoTimer ⌝ }
+{
+    let finished = notice_of_completion(s, s.marks.finished);
+    noting(s, false, false, FaultEvent::NoFault, finished, TimerEvent::NoTimer)
+}
+
+fn fault_event(s: State, action: u8, condition: u8) -> FaultEvent
+    ensures { λ r. ⌜ r ≡ Fault action condition (s .file .progress) ⌝ }
+{
+    FaultEvent::Fault { action: action, condition: condition, progress: s.file.progress }
+}
+
+// A fault that sends nothing: ignore or abandon.
 fn fault_only(s: State, action: u8, condition: u8) -> Events
     ensures { λ r. ⌜ r ≡ events s false false (Fault action condition (s .file .progress)) NotFinished NoTimer ⌝ }
 {
-    let fault = FaultEvent::Fault { action: action, condition: condition, progress: s.file.progress };
+    let fault = fault_event(s, action, condition);
     noting(s, false, false, fault, FinishedEvent::NotFinished, TimerEvent::NoTimer)
+}
+
+pub fn events_of(s: State, d: Due) -> Events
+    ensures { λ r. ⌜ r ≡ eventsOf s d ⌝ }
+{
+    match d {
+        Due::CancelEof => eof_sent(s, FaultEvent::NoFault, FinishedEvent::NotFinished, ack_timer(s)),
+        Due::Repair => quiet(s),
+        Due::Metadata => noting(s, true, false, FaultEvent::NoFault, FinishedEvent::NotFinished, TimerEvent::NoTimer),
+        Due::Data => quiet(s),
+        Due::NoErrorEof => eof_sent(s, FaultEvent::NoFault, eof_finished(s), eof_timer(s)),
+        Due::EofAgain => eof_sent(s, FaultEvent::NoFault, FinishedEvent::NotFinished, TimerEvent::AckTimer),
+        Due::FaultCancel(c) => eof_sent(s, fault_event(s, 1, c), FinishedEvent::NotFinished, ack_timer(s)),
+        Due::FaultIgnore(c) => fault_only(s, 3, c),
+        Due::FaultAbandon(c) => fault_only(s, 4, c),
+        Due::Close => closed(s),
+        Due::Nothing => quiet(s),
+    }
 }

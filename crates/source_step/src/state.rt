@@ -13,7 +13,7 @@ use rules::Marks;
 use rules::State;
 use rules::TransactionStep;
 ghost use mathlib.Core.Path.{_≡_};
-ghost use Rattle.rules.specs.States.{isIdle, toStep, withFile, withMarks, keeping, counted, idle, emptyQueue, noFixed, noNames};
+ghost use Rattle.rules.specs.States.{isIdle, toStep, withFile, withMarks, keeping, counted, idle, emptyQueue, noFixed, noNames, noEof};
 ghost use Rattle.rules.specs.Step.{onward, awaiting, faultMarked};
 
 pub fn is_idle(step: TransactionStep) -> bool
@@ -136,13 +136,19 @@ fn no_names() -> Names
     Names { source: source, sourcelen: 0, destination: destination, destinationlen: 0 }
 }
 
+pub fn no_eof() -> Eof
+    ensures { λ r. ⌜ r ≡ noEof ⌝ }
+{
+    Eof { condition: 0, sum: 0, size: 0 }
+}
+
 // Every way to Idle keeps only the sequence number.
 pub fn idle(number: TransactionSeqNum) -> State
     ensures { λ r. ⌜ r ≡ idle number ⌝ }
 {
     let fixed = no_fixed();
     let names = no_names();
-    let eof = Eof { condition: 0, sum: 0, size: 0 };
+    let eof = no_eof();
     let file = FileParams { progress: 0, eof: eof };
     let queue = empty_queue();
     let finished = FinishedParams { condition: 0, delivery: 0, status: 0 };
