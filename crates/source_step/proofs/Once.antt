@@ -1,6 +1,6 @@
 -- The EOF taken from the PDU is the one that the definition computes again; and the expiry count that a step moves was below the limit.
 -- Assumes nothing.
-use mathlib.Core.Path.{_≡_, refl}
+use mathlib.Core.Path.{_≡_, refl, sym, _∙_}
 use mathlib.Core.Bool.{Bool, true, false}
 use mathlib.Core.List.{List}
 use Prim.Native.Nat.{ℕ, _+_, _<_}
@@ -17,6 +17,8 @@ use Rattle.rules.specs.declared.TransactionStep.the-variants.{Idle, SendingMeta
 use Rattle.rules.specs.declared.Due.{Due}
 use Rattle.rules.specs.declared.Due.the-variants.{CancelEof, Repair, Metadata, Data, NoErrorEof, EofAgain, FaultCancel, FaultIgnore, FaultAbandon, Close, Nothing}
 use Rattle.rules.specs.declared.Sending.{Sending}
+use Rattle.rules.specs.declared.Stepped.{Stepped}
+use Rattle.rules.specs.declared.Written.{Written}
 use Rattle.rules.specs.declared.Written.the-variants.{Short, Wrote}
 use Rattle.rules.specs.declared.Refusal.the-variants.{OutTooSmall}
 use Rattle.rules.specs.declared.Answer.the-variants.{Accepted}
@@ -36,19 +38,21 @@ after-once s file (FaultAbandon c) = refl
 after-once s file Close = refl
 after-once s file Nothing = refl
 
--- what a writer answered, as the definition's test of the room
-pub made-short : (s : State) (file : List ℕ) (d : Due) (p : Sending) (out : List ℕ) → p ≡ sendingOf s file d → Short ≡ writtenOf (bytesFor s file p) out
-    → refusedStep s OutTooSmall ≡ made s file d (length out)
-unfolding made
-made-short s file d p out e w = on-short (bytesFor s file (sendingOf s file d)) out _ _ (rw e at w)
+-- what a writer answered, w, is the definition's test of the room
+module _ (s : State) (file : List ℕ) (d : Due) (p : Sending) (out : List ℕ) (w : Written) (r : Stepped) (sent : p ≡ sendingOf s file d) (said : w ≡ writtenOf (bytesFor s file p) out) where
+  said-of : w ≡ writtenOf (bytesFor s file (sendingOf s file d)) out
+  said-of = rw sent at said
 
-pub made-wrote : (s : State) (file : List ℕ) (d : Due) (p : Sending) (out : List ℕ) (n : ℕ) → p ≡ sendingOf s file d → Wrote n ≡ writtenOf (bytesFor s file p) out
-    → acceptedStep s p d n ≡ made s file d (length out)
-unfolding made
-made-wrote s file d p out n e w =
-    rw (e, after-once s file d)
-    (on-wrote (bytesFor s file (sendingOf s file d)) out n _
-    (λ (k : ℕ). record { answer = Accepted; length = k; events = eventsOf s d; state = afterOf s file d }) (rw e at w))
+  pub made-short : w ≡ Short → r ≡ refusedStep s OutTooSmall → r ≡ made s file d (length out)
+  unfolding made
+  made-short e f = f ∙ on-short (bytesFor s file (sendingOf s file d)) out _ _ (sym e ∙ said-of)
+
+  pub made-wrote : (n : ℕ) → w ≡ Wrote n → r ≡ acceptedStep s p d n → r ≡ made s file d (length out)
+  unfolding made
+  made-wrote n e f =
+      f ∙ rw (sent, after-once s file d)
+      (on-wrote (bytesFor s file (sendingOf s file d)) out n _
+      (λ (k : ℕ). record { answer = Accepted; length = k; events = eventsOf s d; state = afterOf s file d }) (sym e ∙ said-of))
 
 module _ (s : State) (expired : Bool) where
   fault : (condition : ℕ) → Countable s (faultDue s condition)

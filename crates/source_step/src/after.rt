@@ -2,11 +2,11 @@
 use super::sending::next_length;
 use super::state;
 use super::state::no_eof;
+use rules::Due;
 use rules::Eof;
+use rules::Sending;
 use rules::State;
 use rules::TransactionStep;
-use rules::Due;
-use rules::Sending;
 use source_queue::queue;
 ghost use mathlib.Core.Path.{_≡_};
 ghost use Prim.Native.Nat.{_+_, _<_};
@@ -25,7 +25,17 @@ fn notice_of_cancellation(s: State, e: Eof) -> State
     state::start_positive_ack_procedure(s, e)
 }
 
-// 3
+// 2: the request's rest, or its place free; progress stays.
+fn after_repair(s: State) -> State
+    ensures { λ r. ⌜ r ≡ withQueue s (served (s .fixed .segment) (s .queue)) ⌝ }
+{
+    let queue = queue::served(s.fixed.segment, s.queue);
+    let mut t = s;
+    t.queue = queue;
+    t
+}
+
+// 3: an empty file has no data to send.
 fn after_metadata(s: State) -> State
     ensures { λ r. ⌜ r ≡ afterMetadata s ⌝ }
 {
@@ -35,7 +45,18 @@ fn after_metadata(s: State) -> State
     state::to_step(s, TransactionStep::SendingFileData)
 }
 
-// 5
+// 4: progress moves past the bytes sent; at S the EOF is next.
+fn after_data(s: State) -> State
+    ensures { λ r. ⌜ r ≡ afterData s ⌝ }
+{
+    let p = s.file.progress + next_length(s);
+    if p == s.fixed.size {
+        return state::to_step(state::onward(s, p), TransactionStep::SendingEof);
+    }
+    state::onward(s, p)
+}
+
+// 5: the EOF waits for its ACK or for a Finished PDU, or is the end.
 fn after_eof(s: State, e: Eof) -> State
     ensures { λ r. ⌜ r ≡ afterEof s e ⌝ }
 {
@@ -48,28 +69,7 @@ fn after_eof(s: State, e: Eof) -> State
     state::idle(s.number)
 }
 
-// 4
-fn after_data(s: State) -> State
-    ensures { λ r. ⌜ r ≡ afterData s ⌝ }
-{
-    let p = s.file.progress + next_length(s);
-    if p == s.fixed.size {
-        return state::to_step(state::onward(s, p), TransactionStep::SendingEof);
-    }
-    state::onward(s, p)
-}
-
-// 2: the request's rest, or its place free; progress stays.
-fn after_repair(s: State) -> State
-    ensures { λ r. ⌜ r ≡ withQueue s (served (s .fixed .segment) (s .queue)) ⌝ }
-{
-    let queue = queue::served(s.fixed.segment, s.queue);
-    let mut t = s;
-    t.queue = queue;
-    t
-}
-
-// 6
+// 6: the same EOF was sent again.
 fn after_eof_again(s: State) -> State
     requires { ⌜ s .marks .count + 1 < s .fixed .limit ⌝ }
     ensures { λ r. ⌜ r ≡ withMarks s (counted (s .marks) (s .marks .count + 1)) ⌝ }
@@ -77,14 +77,17 @@ fn after_eof_again(s: State) -> State
     state::counted(s, s.marks.count + 1)
 }
 
-// The EOF that a PDU holds.
+// The EOF that a PDU holds, so that it is computed once.
 pub fn eof_in(p: Sending) -> Eof
     ensures { λ r. ⌜ r ≡ eofIn p ⌝ }
 {
     match p {
         Sending::Nothing => no_eof(),
         Sending::Metadata => no_eof(),
-        Sending::FileData { offset: _, length: _ } => no_eof(),
+        Sending::FileData {
+            offset: _,
+            length: _,
+        } => no_eof(),
         Sending::Eof(e) => e,
         Sending::AckFinished(_) => no_eof(),
     }

@@ -1,7 +1,7 @@
 // Whether a user's cancel is taken.
 use rules::EntityId;
-use rules::TransactionSeqNum;
 use rules::State;
+use rules::TransactionSeqNum;
 use rules::TransactionStep;
 ghost use mathlib.Core.Path.{_≡_};
 ghost use Rattle.rules.specs.Cancel.{canCancel, mayCancel};

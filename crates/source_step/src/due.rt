@@ -1,8 +1,8 @@
 // What is due: "A step does the first that applies".
 use basis::wide;
+use rules::Due;
 use rules::State;
 use rules::TransactionStep;
-use rules::Due;
 ghost use mathlib.Core.Path.{_≡_};
 ghost use Prim.Native.Nat.{_+_, _<_};
 ghost use lib.Dec.{leb};
@@ -87,7 +87,11 @@ fn due_at(step: TransactionStep, s: State, expired: bool) -> Due
 fn eof_owed(s: State) -> bool
     ensures { λ r. ⌜ r ≡ eofOwed s ⌝ }
 {
-    if s.marks.cancelled { s.marks.owed } else { false }
+    if s.marks.cancelled {
+        s.marks.owed
+    } else {
+        false
+    }
 }
 
 // The queue comes before the step: while it holds a request, the expiry flag isn't read.

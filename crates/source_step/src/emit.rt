@@ -6,8 +6,8 @@ use pdu::file_data::write_file_data;
 use pdu::metadata::write_metadata;
 use rules::Head;
 use rules::Names;
-use rules::State;
 use rules::Sending;
+use rules::State;
 use rules::Written;
 ghost use mathlib.Core.Path.{_≡_};
 ghost use lib.ListN.{take, drop};
@@ -20,10 +20,21 @@ ghost use Rattle.rules.specs.Step.{closureBit, metadataOf, bytesFor};
 fn closure_bit(s: State) -> bool
     ensures { λ r. ⌜ r ≡ closureBit s ⌝ }
 {
-    if s.fixed.head.unacknowledged { s.fixed.closure } else { false }
+    if s.fixed.head.unacknowledged {
+        s.fixed.closure
+    } else {
+        false
+    }
 }
 
-fn emit_named(head: Head, closure: bool, kind: u8, size: u64, names: Names, out: &mut [u8]) -> Written
+fn emit_named(
+    head: Head,
+    closure: bool,
+    kind: u8,
+    size: u64,
+    names: Names,
+    out: &mut [u8],
+) -> Written
     ensures { λ r. ⌜ r ≡ writtenOf (encode head (metadata closure kind size (sourceName names) (destinationName names))) (now (out .entry)) ⌝ }
     ensures { λ r. ⌜ now (out .exit) ≡ inFront (encode head (metadata closure kind size (sourceName names) (destinationName names))) (now (out .entry)) ⌝ }
 {
@@ -31,7 +42,15 @@ fn emit_named(head: Head, closure: bool, kind: u8, size: u64, names: Names, out:
     let destination = names.destination;
     let m = names.sourcelen as usize;
     let n = names.destinationlen as usize;
-    write_metadata(out, head, closure, kind, size, &source[..m], &destination[..n])
+    write_metadata(
+        out,
+        head,
+        closure,
+        kind,
+        size,
+        &source[..m],
+        &destination[..n],
+    )
 }
 
 fn emit_metadata(s: State, out: &mut [u8]) -> Written

@@ -1,12 +1,12 @@
 // The events of each case, one record in their fixed order.
-use rules::State;
 use rules::Due;
 use rules::Events;
-use rules::TransactionId;
 use rules::FaultEvent;
 use rules::FinishedEvent;
 use rules::FinishedParams;
+use rules::State;
 use rules::TimerEvent;
+use rules::TransactionId;
 ghost use mathlib.Core.Path.{_≡_};
 ghost use mathlib.Core.Bool.{false};
 ghost use Rattle.rules.specs.Step.{events, quiet, finishedIf, ackTimer, eofTimer, eofFinished, unreported, eventsOf};
@@ -14,19 +14,40 @@ ghost use Rattle.rules.specs.declared.FaultEvent.the-variants.{NoFault, Fault};
 ghost use Rattle.rules.specs.declared.FinishedEvent.the-variants.{NotFinished};
 ghost use Rattle.rules.specs.declared.TimerEvent.the-variants.{NoTimer};
 
-fn noting(s: State, transaction: bool, eofsent: bool, fault: FaultEvent, finished: FinishedEvent, timer: TimerEvent) -> Events
+fn noting(
+    s: State,
+    transaction: bool,
+    eofsent: bool,
+    fault: FaultEvent,
+    finished: FinishedEvent,
+    timer: TimerEvent,
+) -> Events
     ensures { λ r. ⌜ r ≡ events s transaction eofsent fault finished timer ⌝ }
 {
     let source = s.fixed.head.source;
     let number = s.fixed.head.number;
     let id = TransactionId(source, number);
-    Events { id: id, transaction: transaction, eofsent: eofsent, fault: fault, finished: finished, timer: timer }
+    Events {
+        id: id,
+        transaction: transaction,
+        eofsent: eofsent,
+        fault: fault,
+        finished: finished,
+        timer: timer,
+    }
 }
 
 pub fn quiet(s: State) -> Events
     ensures { λ r. ⌜ r ≡ quiet s ⌝ }
 {
-    noting(s, false, false, FaultEvent::NoFault, FinishedEvent::NotFinished, TimerEvent::NoTimer)
+    noting(
+        s,
+        false,
+        false,
+        FaultEvent::NoFault,
+        FinishedEvent::NotFinished,
+        TimerEvent::NoTimer,
+    )
 }
 
 // A finished event, if the configuration's flag is set.
@@ -71,7 +92,11 @@ fn eof_finished(s: State) -> FinishedEvent
     if s.fixed.closure {
         return FinishedEvent::NotFinished;
     }
-    let unreported = FinishedParams { condition: 0, delivery: 0, status: 3 };
+    let unreported = FinishedParams {
+        condition: 0,
+        delivery: 0,
+        status: 3,
+    };
     notice_of_completion(s, unreported)
 }
 
@@ -86,13 +111,24 @@ fn closed(s: State) -> Events
     ensures { λ r. ⌜ r ≡ events s false false NoFault (finishedIf s (s .marks .finished)) NoTimer ⌝ }
 {
     let finished = notice_of_completion(s, s.marks.finished);
-    noting(s, false, false, FaultEvent::NoFault, finished, TimerEvent::NoTimer)
+    noting(
+        s,
+        false,
+        false,
+        FaultEvent::NoFault,
+        finished,
+        TimerEvent::NoTimer,
+    )
 }
 
 fn fault_event(s: State, action: u8, condition: u8) -> FaultEvent
     ensures { λ r. ⌜ r ≡ Fault action condition (s .file .progress) ⌝ }
 {
-    FaultEvent::Fault { action: action, condition: condition, progress: s.file.progress }
+    FaultEvent::Fault {
+        action: action,
+        condition: condition,
+        progress: s.file.progress,
+    }
 }
 
 // A fault that sends nothing: ignore or abandon.
@@ -100,20 +136,49 @@ fn fault_only(s: State, action: u8, condition: u8) -> Events
     ensures { λ r. ⌜ r ≡ events s false false (Fault action condition (s .file .progress)) NotFinished NoTimer ⌝ }
 {
     let fault = fault_event(s, action, condition);
-    noting(s, false, false, fault, FinishedEvent::NotFinished, TimerEvent::NoTimer)
+    noting(
+        s,
+        false,
+        false,
+        fault,
+        FinishedEvent::NotFinished,
+        TimerEvent::NoTimer,
+    )
 }
 
 pub fn events_of(s: State, d: Due) -> Events
     ensures { λ r. ⌜ r ≡ eventsOf s d ⌝ }
 {
     match d {
-        Due::CancelEof => eof_sent(s, FaultEvent::NoFault, FinishedEvent::NotFinished, ack_timer(s)),
+        Due::CancelEof => eof_sent(
+            s,
+            FaultEvent::NoFault,
+            FinishedEvent::NotFinished,
+            ack_timer(s),
+        ),
         Due::Repair => quiet(s),
-        Due::Metadata => noting(s, true, false, FaultEvent::NoFault, FinishedEvent::NotFinished, TimerEvent::NoTimer),
+        Due::Metadata => noting(
+            s,
+            true,
+            false,
+            FaultEvent::NoFault,
+            FinishedEvent::NotFinished,
+            TimerEvent::NoTimer,
+        ),
         Due::Data => quiet(s),
         Due::NoErrorEof => eof_sent(s, FaultEvent::NoFault, eof_finished(s), eof_timer(s)),
-        Due::EofAgain => eof_sent(s, FaultEvent::NoFault, FinishedEvent::NotFinished, TimerEvent::AckTimer),
-        Due::FaultCancel(c) => eof_sent(s, fault_event(s, 1, c), FinishedEvent::NotFinished, ack_timer(s)),
+        Due::EofAgain => eof_sent(
+            s,
+            FaultEvent::NoFault,
+            FinishedEvent::NotFinished,
+            TimerEvent::AckTimer,
+        ),
+        Due::FaultCancel(c) => eof_sent(
+            s,
+            fault_event(s, 1, c),
+            FinishedEvent::NotFinished,
+            ack_timer(s),
+        ),
         Due::FaultIgnore(c) => fault_only(s, 3, c),
         Due::FaultAbandon(c) => fault_only(s, 4, c),
         Due::Close => closed(s),

@@ -8,16 +8,16 @@ mod events;
 mod sending;
 mod state;
 
-use rules::EntityId;
-use rules::TransactionSeqNum;
-use rules::State;
-use rules::Due;
-use rules::Sending;
-use rules::Written;
-use rules::Refusal;
 use rules::Answer;
-use rules::Stepped;
 use rules::Cancelled;
+use rules::Due;
+use rules::EntityId;
+use rules::Refusal;
+use rules::Sending;
+use rules::State;
+use rules::Stepped;
+use rules::TransactionSeqNum;
+use rules::Written;
 ghost use mathlib.Core.Path.{_≡_};
 ghost use lib.ListN.{length};
 ghost use Rattle.basis.specs.Laid.{inFront};
@@ -43,7 +43,12 @@ fn refused_step(s: State, r: Refusal) -> Stepped
     ensures { λ a. ⌜ a ≡ refusedStep s r ⌝ }
 {
     let events = events::quiet(s);
-    Stepped { answer: Answer::Refused(r), length: 0, events: events, state: s }
+    Stepped {
+        answer: Answer::Refused(r),
+        length: 0,
+        events: events,
+        state: s,
+    }
 }
 
 fn accepted_step(s: State, p: Sending, d: Due, n: usize) -> Stepped
@@ -52,7 +57,12 @@ fn accepted_step(s: State, p: Sending, d: Due, n: usize) -> Stepped
 {
     let events = events::events_of(s, d);
     let t = after::after_of(s, after::eof_in(p), d);
-    Stepped { answer: Answer::Accepted, length: n, events: events, state: t }
+    Stepped {
+        answer: Answer::Accepted,
+        length: n,
+        events: events,
+        state: t,
+    }
 }
 
 // What is due is done, or refused as OutTooSmall with nothing written.
@@ -85,9 +95,15 @@ pub fn cancel(s: State, source: EntityId, number: TransactionSeqNum) -> Cancelle
 {
     if cancelling::may_cancel(s, source, number) {
         let t = state::marked(s, 15);
-        return Cancelled { yes: true, state: t };
+        return Cancelled {
+            yes: true,
+            state: t,
+        };
     }
-    Cancelled { yes: false, state: s }
+    Cancelled {
+        yes: false,
+        state: s,
+    }
 }
 
 // Idle at once: nothing more is sent, and only the sequence number is kept.

@@ -1,10 +1,10 @@
 // The PDU of each case.
 use checksum::sum_of;
+use rules::Due;
 use rules::Eof;
 use rules::SegmentRequest;
-use rules::State;
-use rules::Due;
 use rules::Sending;
+use rules::State;
 use source_queue::queue;
 ghost use mathlib.Core.Path.{_≡_};
 ghost use Rattle.rules.specs.Step.{eofFor, cancelEof, repairOf, nextLength, closing, sendingOf};
@@ -14,7 +14,11 @@ fn eof_for(s: State, file: &[u8], condition: u8, size: u64) -> Eof
     ensures { λ r. ⌜ r ≡ eofFor s (now (file .entry)) condition size ⌝ }
 {
     let sum = sum_of(s.fixed.checksum, file, size as usize);
-    Eof { condition: condition, sum: sum, size: size }
+    Eof {
+        condition: condition,
+        sum: sum,
+        size: size,
+    }
 }
 
 // Of what was sent so far.
@@ -31,14 +35,20 @@ fn repair_of(segment: u64, q: SegmentRequest) -> Sending
         return Sending::Metadata;
     }
     let n = queue::piece(segment, q);
-    Sending::FileData { offset: q.start, length: n }
+    Sending::FileData {
+        offset: q.start,
+        length: n,
+    }
 }
 
 // The first pass is one long request: from progress to the end.
 pub fn next_length(s: State) -> u64
     ensures { λ r. ⌜ r ≡ nextLength s ⌝ }
 {
-    let rest = SegmentRequest { start: s.file.progress, end: s.fixed.size };
+    let rest = SegmentRequest {
+        start: s.file.progress,
+        end: s.fixed.size,
+    };
     queue::piece(s.fixed.segment, rest)
 }
 
@@ -58,7 +68,10 @@ pub fn sending_of(s: State, file: &[u8], d: Due) -> Sending
         Due::CancelEof => Sending::Eof(cancel_eof(s, file, s.marks.condition)),
         Due::Repair => repair_of(s.fixed.segment, queue::oldest(s.queue)),
         Due::Metadata => Sending::Metadata,
-        Due::Data => Sending::FileData { offset: s.file.progress, length: next_length(s) },
+        Due::Data => Sending::FileData {
+            offset: s.file.progress,
+            length: next_length(s),
+        },
         Due::NoErrorEof => Sending::Eof(eof_for(s, file, 0, s.fixed.size)),
         Due::EofAgain => {
             let e = s.file.eof;

@@ -1,16 +1,16 @@
 // The state's groups changed one at a time, and Idle. An enum field is never stored to: `to_step` makes the state anew.
 use rules::EntityId;
-use rules::TransactionSeqNum;
-use rules::Head;
-use rules::Fixed;
-use rules::Names;
 use rules::Eof;
 use rules::FileParams;
-use rules::SegmentRequest;
-use rules::Queue;
 use rules::FinishedParams;
+use rules::Fixed;
+use rules::Head;
 use rules::Marks;
+use rules::Names;
+use rules::Queue;
+use rules::SegmentRequest;
 use rules::State;
+use rules::TransactionSeqNum;
 use rules::TransactionStep;
 ghost use mathlib.Core.Path.{_≡_};
 ghost use Rattle.rules.specs.States.{isIdle, toStep, withFile, withMarks, keeping, counted, idle, emptyQueue, noFixed, noNames, noEof};
@@ -39,7 +39,15 @@ pub fn to_step(s: State, step: TransactionStep) -> State
     let file = s.file;
     let queue = s.queue;
     let marks = s.marks;
-    State { number: number, step: step, fixed: fixed, names: names, file: file, queue: queue, marks: marks }
+    State {
+        number: number,
+        step: step,
+        fixed: fixed,
+        names: names,
+        file: file,
+        queue: queue,
+        marks: marks,
+    }
 }
 
 // Progress moves: only first-pass bytes do this.
@@ -55,7 +63,10 @@ pub fn onward(s: State, progress: u64) -> State
 pub fn keeping(s: State, e: Eof) -> State
     ensures { λ r. ⌜ r ≡ withFile s (keeping (s .file) e) ⌝ }
 {
-    let file = FileParams { progress: s.file.progress, eof: e };
+    let file = FileParams {
+        progress: s.file.progress,
+        eof: e,
+    };
     let mut t = s;
     t.file = file;
     t
@@ -84,7 +95,10 @@ fn empty_queue() -> Queue
     ensures { λ r. ⌜ r ≡ emptyQueue ⌝ }
 {
     let places = [SegmentRequest { start: 0, end: 0 }; 64];
-    Queue { places: places, count: 0 }
+    Queue {
+        places: places,
+        count: 0,
+    }
 }
 
 // Cancelled with this condition, by a fault or by the user: the mark set, the queue emptied, the EOF owed.
@@ -133,13 +147,22 @@ fn no_names() -> Names
 {
     let source = [0u8; 255];
     let destination = [0u8; 255];
-    Names { source: source, sourcelen: 0, destination: destination, destinationlen: 0 }
+    Names {
+        source: source,
+        sourcelen: 0,
+        destination: destination,
+        destinationlen: 0,
+    }
 }
 
 pub fn no_eof() -> Eof
     ensures { λ r. ⌜ r ≡ noEof ⌝ }
 {
-    Eof { condition: 0, sum: 0, size: 0 }
+    Eof {
+        condition: 0,
+        sum: 0,
+        size: 0,
+    }
 }
 
 // Every way to Idle keeps only the sequence number.
@@ -149,10 +172,24 @@ pub fn idle(number: TransactionSeqNum) -> State
     let fixed = no_fixed();
     let names = no_names();
     let eof = no_eof();
-    let file = FileParams { progress: 0, eof: eof };
+    let file = FileParams {
+        progress: 0,
+        eof: eof,
+    };
     let queue = empty_queue();
-    let finished = FinishedParams { condition: 0, delivery: 0, status: 0 };
-    let marks = Marks { cancelled: false, owed: false, condition: 0, count: 0, finished: finished, anomalies: 0 };
+    let finished = FinishedParams {
+        condition: 0,
+        delivery: 0,
+        status: 0,
+    };
+    let marks = Marks {
+        cancelled: false,
+        owed: false,
+        condition: 0,
+        count: 0,
+        finished: finished,
+        anomalies: 0,
+    };
     State {
         number: number,
         step: TransactionStep::Idle,

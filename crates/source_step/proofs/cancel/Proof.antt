@@ -4,25 +4,17 @@ use Rattle.rules.specs.Cancel.{cancelSpec}
 use borrow.Author.Needs.{needs}
 use Rattle.source_step.proofs.cancel.Statement.{statement}
 use Rattle.source_step.proofs.cancel.Tie as tie
-use Rattle.source_step.proofs.cancel.Reads as reads
-use Rattle.source_step.proofs.cancel.Lts as lts
-use Rattle.source_step.proofs.cancelling.may_cancel.Reads as may-cancel-reads
-use Rattle.source_step.proofs.state.marked.Reads as marked-reads
 
--- src/lib.rt:21:8
 may-cancel-requires : tie.Need-may-cancel-requires
 may-cancel-requires c κs = search needs
 
--- src/lib.rt:22:13
 marked-requires : tie.Need-marked-requires
 marked-requires c κs = search needs
 
--- src/lib.rt:23:9
 returns : tie.Need-returns
 unfolding cancelSpec
 returns c = rw (c .marked .ensures) (search (picks, told) depth 8)
 
--- src/lib.rt:18:1
 returns-2 : tie.Need-returns-2
 unfolding cancelSpec
 returns-2 c = search (picks, told) depth 8

@@ -4,25 +4,18 @@ use Rattle.rules.specs.Step.{changed}
 use borrow.Author.Needs.{needs}
 use Rattle.source_step.proofs.changed.Statement.{statement}
 use Rattle.source_step.proofs.changed.Tie as tie
-use Rattle.source_step.proofs.changed.Reads as reads
-use Rattle.source_step.proofs.changed.Lts as lts
-use Rattle.source_step.proofs.state.is_idle.Reads as is-idle-reads
 
--- src/lib.rt:33:8
 is-idle-requires : tie.Need-is-idle-requires
 is-idle-requires c κs = search needs
 
--- src/lib.rt:34:9
 returns : tie.Need-returns
 unfolding changed
 returns c = search (picks, told) depth 8
 
--- src/lib.rt:37:9
 returns-2 : tie.Need-returns-2
 unfolding changed
 returns-2 c = search (picks, told) depth 8
 
--- src/lib.rt:29:1
 returns-3 : tie.Need-returns-3
 unfolding changed
 returns-3 c = search (picks, told) depth 8

@@ -2,15 +2,10 @@
 use borrow.Author.Needs.{needs}
 use Rattle.source_step.proofs.refused_step.Statement.{statement}
 use Rattle.source_step.proofs.refused_step.Tie as tie
-use Rattle.source_step.proofs.refused_step.Reads as reads
-use Rattle.source_step.proofs.refused_step.Lts as lts
-use Rattle.source_step.proofs.events.quiet.Reads as quiet-reads
 
--- src/lib.rt:45:9
 quiet-requires : tie.Need-quiet-requires
 quiet-requires c κs = search needs
 
--- src/lib.rt:42:1
 returns : tie.Need-returns
 returns c = rw (c .quiet .ensures)
 

@@ -4,38 +4,26 @@ use Rattle.rules.specs.Step.{afterData}
 use borrow.Author.Needs.{needs}
 use Rattle.source_step.proofs.after.after_data.Statement.{statement}
 use Rattle.source_step.proofs.after.after_data.Tie as tie
-use Rattle.source_step.proofs.after.after_data.Reads as reads
-use Rattle.source_step.proofs.after.after_data.Lts as lts
-use Rattle.source_step.proofs.sending.next_length.Reads as next-length-reads
-use Rattle.source_step.proofs.state.onward.Reads as onward-reads
-use Rattle.source_step.proofs.state.to_step.Reads as to-step-reads
 
--- src/after.rt:53:31
 next-length-requires : tie.Need-next-length-requires
 next-length-requires c κs = search needs
 
--- src/after.rt:53:13
 add-p : tie.Need-add-p
 add-p c = search needs
 
--- src/after.rt:55:31
 onward-requires : tie.Need-onward-requires
 onward-requires c κs = search needs
 
--- src/after.rt:55:9
 to-step-requires : tie.Need-to-step-requires
 to-step-requires c κs = search needs
 
--- src/after.rt:55:9
 returns : tie.Need-returns
 unfolding afterData
 returns c = rw (c .to-step .ensures, c .before .onward .ensures, ← (c .before .before .before .before .before .next-length .ensures)) (search picks depth 8)
 
--- src/after.rt:57:5
 onward-requires-2 : tie.Need-onward-requires-2
 onward-requires-2 c κs = search needs
 
--- src/after.rt:50:1
 returns-2 : tie.Need-returns-2
 unfolding afterData
 returns-2 c = rw (c .onward2 .ensures, ← (c .before .before .before .before .next-length .ensures)) (search picks depth 8)

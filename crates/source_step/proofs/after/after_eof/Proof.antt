@@ -4,40 +4,27 @@ use Rattle.rules.specs.Step.{afterEof}
 use borrow.Author.Needs.{needs}
 use Rattle.source_step.proofs.after.after_eof.Statement.{statement}
 use Rattle.source_step.proofs.after.after_eof.Tie as tie
-use Rattle.source_step.proofs.after.after_eof.Reads as reads
-use Rattle.source_step.proofs.after.after_eof.Lts as lts
-use Rattle.source_step.proofs.state.idle.Reads as idle-reads
-use Rattle.source_step.proofs.state.keeping.Reads as keeping-reads
-use Rattle.source_step.proofs.state.start_positive_ack_procedure.Reads as start-positive-ack-procedure-reads
-use Rattle.source_step.proofs.state.to_step.Reads as to-step-reads
 
--- src/after.rt:35:9
 start-positive-ack-procedure-requires : tie.Need-start-positive-ack-procedure-requires
 start-positive-ack-procedure-requires c κs = search needs
 
--- src/after.rt:35:9
 returns : tie.Need-returns
 unfolding afterEof
 returns c = rw (c .start-positive-ack-procedure .ensures) (search picks depth 8)
 
--- src/after.rt:38:31
 keeping-requires : tie.Need-keeping-requires
 keeping-requires c κs = search needs
 
--- src/after.rt:38:9
 to-step-requires : tie.Need-to-step-requires
 to-step-requires c κs = search needs
 
--- src/after.rt:38:9
 returns-2 : tie.Need-returns-2
 unfolding afterEof
 returns-2 c = rw (c .to-step .ensures, c .before .keeping .ensures) (search picks depth 8)
 
--- src/after.rt:40:5
 idle-requires : tie.Need-idle-requires
 idle-requires c κs = search needs
 
--- src/after.rt:31:1
 returns-3 : tie.Need-returns-3
 unfolding afterEof
 returns-3 c = rw (c .idle .ensures) (search picks depth 8)

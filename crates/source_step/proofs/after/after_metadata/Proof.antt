@@ -4,24 +4,17 @@ use Rattle.rules.specs.Step.{afterMetadata}
 use borrow.Author.Needs.{needs}
 use Rattle.source_step.proofs.after.after_metadata.Statement.{statement}
 use Rattle.source_step.proofs.after.after_metadata.Tie as tie
-use Rattle.source_step.proofs.after.after_metadata.Reads as reads
-use Rattle.source_step.proofs.after.after_metadata.Lts as lts
-use Rattle.source_step.proofs.state.to_step.Reads as to-step-reads
 
--- src/after.rt:25:9
 to-step-requires : tie.Need-to-step-requires
 to-step-requires c κs = search needs
 
--- src/after.rt:25:9
 returns : tie.Need-returns
 unfolding afterMetadata
 returns c = rw (c .to-step .ensures) (search picks depth 8)
 
--- src/after.rt:27:5
 to-step-requires-2 : tie.Need-to-step-requires-2
 to-step-requires-2 c κs = search needs
 
--- src/after.rt:21:1
 returns-2 : tie.Need-returns-2
 unfolding afterMetadata
 returns-2 c = rw (c .to-step2 .ensures) (search picks depth 8)

@@ -4,30 +4,21 @@ use Rattle.rules.specs.Step.{ackExpired}
 use borrow.Author.Needs.{needs}
 use Rattle.source_step.proofs.due.ack_expired.Statement.{statement}
 use Rattle.source_step.proofs.due.ack_expired.Tie as tie
-use Rattle.source_step.proofs.due.ack_expired.Reads as reads
-use Rattle.source_step.proofs.due.ack_expired.Lts as lts
-use Rattle.source_step.proofs.due.declare_fault.Reads as declare-fault-reads
-use Rattle.source_step.proofs.due.limit_reached.Reads as limit-reached-reads
 
--- src/due.rt:50:9
 returns : tie.Need-returns
 unfolding ackExpired
 returns c = search picks depth 8
 
--- src/due.rt:52:8
 limit-reached-requires : tie.Need-limit-reached-requires
 limit-reached-requires c κs = search needs
 
--- src/due.rt:53:9
 declare-fault-requires : tie.Need-declare-fault-requires
 declare-fault-requires c κs = search needs
 
--- src/due.rt:53:9
 returns-2 : tie.Need-returns-2
 unfolding ackExpired
 returns-2 c = rw (c .declare-fault .ensures) (search (picks, told) depth 8)
 
--- src/due.rt:46:1
 returns-3 : tie.Need-returns-3
 unfolding ackExpired
 returns-3 c = search (picks, told) depth 8

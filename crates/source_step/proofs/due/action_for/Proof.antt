@@ -4,19 +4,14 @@ use Rattle.rules.specs.Step.{actionFor}
 use borrow.Author.Needs.{needs}
 use Rattle.source_step.proofs.due.action_for.Statement.{statement}
 use Rattle.source_step.proofs.due.action_for.Tie as tie
-use Rattle.source_step.proofs.due.action_for.Reads as reads
-use Rattle.source_step.proofs.due.action_for.Lts as lts
 
--- src/due.rt:15:9
 returns : tie.Need-returns
 unfolding actionFor
 returns c = search picks depth 6
 
--- src/due.rt:19:5
 element-copy-out-result : tie.Need-element-copy-out-result
 element-copy-out-result c = search needs
 
--- src/due.rt:10:1
 returns-2 : tie.Need-returns-2
 unfolding actionFor
 returns-2 c = search picks depth 6

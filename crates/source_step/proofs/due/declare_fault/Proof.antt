@@ -4,25 +4,18 @@ use Rattle.rules.specs.Step.{faultDue}
 use borrow.Author.Needs.{needs}
 use Rattle.source_step.proofs.due.declare_fault.Statement.{statement}
 use Rattle.source_step.proofs.due.declare_fault.Tie as tie
-use Rattle.source_step.proofs.due.declare_fault.Reads as reads
-use Rattle.source_step.proofs.due.declare_fault.Lts as lts
-use Rattle.source_step.proofs.due.action_for.Reads as action-for-reads
 
--- src/due.rt:26:9
 action-for-requires : tie.Need-action-for-requires
 action-for-requires c κs = search needs
 
--- src/due.rt:28:9
 returns : tie.Need-returns
 unfolding faultDue
 returns c = search (picks, via) depth 8
 
--- src/due.rt:31:9
 returns-2 : tie.Need-returns-2
 unfolding faultDue
 returns-2 c = search (picks, via) depth 8
 
--- src/due.rt:22:1
 returns-3 : tie.Need-returns-3
 unfolding faultDue
 returns-3 c = search (picks, via) depth 8

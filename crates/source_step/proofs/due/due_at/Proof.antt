@@ -2,72 +2,52 @@
 use borrow.Author.Needs.{needs}
 use Rattle.source_step.proofs.due.due_at.Statement.{statement}
 use Rattle.source_step.proofs.due.due_at.Tie as tie
-use Rattle.source_step.proofs.due.due_at.Reads as reads
-use Rattle.source_step.proofs.due.due_at.Lts as lts
-use Rattle.source_step.proofs.due.ack_expired.Reads as ack-expired-reads
-use Rattle.source_step.proofs.due.check_expired.Reads as check-expired-reads
 
--- src/due.rt:67:34
 enum-told : tie.Need-enum-told
 enum-told c = search needs
 
--- src/due.rt:68:45
 enum-told-2 : tie.Need-enum-told-2
 enum-told-2 c = search needs
 
--- src/due.rt:69:45
 enum-told-3 : tie.Need-enum-told-3
 enum-told-3 c = search needs
 
--- src/due.rt:70:40
 enum-told-4 : tie.Need-enum-told-4
 enum-told-4 c = search needs
 
--- src/due.rt:71:46
 enum-told-5 : tie.Need-enum-told-5
 enum-told-5 c = search needs
 
--- src/due.rt:71:46
 ack-expired-requires : tie.Need-ack-expired-requires
 ack-expired-requires c κs = search needs
 
--- src/due.rt:72:48
 enum-told-6 : tie.Need-enum-told-6
 enum-told-6 c = search needs
 
--- src/due.rt:72:48
 check-expired-requires : tie.Need-check-expired-requires
 check-expired-requires c κs = search needs
 
--- src/due.rt:73:37
 enum-told-7 : tie.Need-enum-told-7
 enum-told-7 c = search needs
 
--- src/due.rt:63:1
 returns : tie.Need-returns
 returns c = rw (c .enum-told .given .1)
 
--- src/due.rt:63:1
 returns-2 : tie.Need-returns-2
 returns-2 c = rw (c .enum-told2 .given .1)
 
--- src/due.rt:63:1
 returns-3 : tie.Need-returns-3
 returns-3 c = rw (c .enum-told3 .given .1)
 
--- src/due.rt:63:1
 returns-4 : tie.Need-returns-4
 returns-4 c = rw (c .enum-told4 .given .1)
 
--- src/due.rt:63:1
 returns-5 : tie.Need-returns-5
 returns-5 c = rw (c .ack-expired .ensures, c .before .enum-told5 .given .1)
 
--- src/due.rt:63:1
 returns-6 : tie.Need-returns-6
 returns-6 c = rw (c .check-expired .ensures, c .before .enum-told6 .given .1)
 
--- src/due.rt:63:1
 returns-7 : tie.Need-returns-7
 returns-7 c = rw (c .enum-told7 .given .1)
 

@@ -3,15 +3,11 @@ use Rattle.basis.proofs.Pick.{picks}
 use Rattle.rules.specs.Step.{eofOwed}
 use Rattle.source_step.proofs.due.eof_owed.Statement.{statement}
 use Rattle.source_step.proofs.due.eof_owed.Tie as tie
-use Rattle.source_step.proofs.due.eof_owed.Reads as reads
-use Rattle.source_step.proofs.due.eof_owed.Lts as lts
 
--- src/due.rt:77:1
 returns : tie.Need-returns
 unfolding eofOwed
 returns c = search picks depth 6
 
--- src/due.rt:77:1
 returns-2 : tie.Need-returns-2
 unfolding eofOwed
 returns-2 c = search picks depth 6

@@ -3,15 +3,11 @@ use Rattle.basis.proofs.Pick.{picks}
 use Rattle.rules.specs.Step.{closureBit}
 use Rattle.source_step.proofs.emit.closure_bit.Statement.{statement}
 use Rattle.source_step.proofs.emit.closure_bit.Tie as tie
-use Rattle.source_step.proofs.emit.closure_bit.Reads as reads
-use Rattle.source_step.proofs.emit.closure_bit.Lts as lts
 
--- src/emit.rt:18:1
 returns : tie.Need-returns
 unfolding closureBit
 returns c = search picks depth 6
 
--- src/emit.rt:18:1
 returns-2 : tie.Need-returns-2
 unfolding closureBit
 returns-2 c = search picks depth 6

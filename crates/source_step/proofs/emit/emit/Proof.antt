@@ -3,82 +3,58 @@ use Rattle.source_step.proofs.Written.{none-written, none-in-front}
 use borrow.Author.Needs.{needs}
 use Rattle.source_step.proofs.emit.emit.Statement.{statement}
 use Rattle.source_step.proofs.emit.emit.Tie as tie
-use Rattle.source_step.proofs.emit.emit.Reads as reads
-use Rattle.source_step.proofs.emit.emit.Lts as lts
-use Rattle.pdu.proofs.ack.write_ack_finished.Reads as write-ack-finished-reads
-use Rattle.pdu.proofs.eof.write_eof.Reads as write-eof-reads
-use Rattle.source_step.proofs.emit.emit_file_data.Reads as emit-file-data-reads
-use Rattle.source_step.proofs.emit.emit_metadata.Reads as emit-metadata-reads
 
--- src/emit.rt:54:29
 enum-told : tie.Need-enum-told
 enum-told c = search needs
 
--- src/emit.rt:55:47
 enum-told-2 : tie.Need-enum-told-2
 enum-told-2 c = search needs
 
--- src/emit.rt:55:30
 emit-metadata-requires : tie.Need-emit-metadata-requires
 emit-metadata-requires c κs = search needs
 
--- src/emit.rt:56:29
 enum-known-p : tie.Need-enum-known-p
 enum-known-p c = search needs
 
--- src/emit.rt:56:49
 emit-file-data-requires : tie.Need-emit-file-data-requires
 emit-file-data-requires c κs = search needs
 
--- src/emit.rt:57:22
 enum-known-p-2 : tie.Need-enum-known-p-2
 enum-known-p-2 c = search needs
 
--- src/emit.rt:57:28
 write-eof-requires : tie.Need-write-eof-requires
 write-eof-requires c κs = search needs
 
--- src/emit.rt:58:30
 enum-known-p-3 : tie.Need-enum-known-p-3
 enum-known-p-3 c = search needs
 
--- src/emit.rt:58:44
 write-ack-finished-requires : tie.Need-write-ack-finished-requires
 write-ack-finished-requires c κs = search needs
 
--- src/emit.rt:48:1
 returns : tie.Need-returns
 returns c = rw (c .enum-told .given .1) (none-written _, none-in-front _)
 
--- src/emit.rt:48:1
 same-length : tie.Need-same-length
 same-length c = search needs
 
--- src/emit.rt:48:1
 returns-2 : tie.Need-returns-2
 returns-2 c = rw (c .before .before .before .before .enum-told2 .given .1) (c .before .before .emit-metadata .ensures)
 
--- src/emit.rt:48:1
 same-length-2 : tie.Need-same-length-2
 same-length-2 c = search needs
 
--- src/emit.rt:48:1
 returns-3 : tie.Need-returns-3
 returns-3 c = rw (c .before .before .before .before .before .p .given .1) (c .before .before .emit-file-data .ensures)
 
--- src/emit.rt:48:1
 same-length-3 : tie.Need-same-length-3
 same-length-3 c = search needs
 
--- src/emit.rt:48:1
 returns-4 : tie.Need-returns-4
 returns-4 c = rw (c .before .before .before .before .before .p2 .given .1) (c .before .before .write-eof .ensures)
 
--- src/emit.rt:48:1
 same-length-4 : tie.Need-same-length-4
 same-length-4 c = search needs
 
--- src/emit.rt:48:1
 returns-5 : tie.Need-returns-5
 returns-5 c = rw (c .before .before .before .before .before .p3 .given .1) (c .before .before .write-ack-finished .ensures)
 

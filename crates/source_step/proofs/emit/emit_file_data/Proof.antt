@@ -4,48 +4,34 @@ use Rattle.source_step.proofs.Written.{cut}
 use borrow.Author.Needs.{needs}
 use Rattle.source_step.proofs.emit.emit_file_data.Statement.{statement}
 use Rattle.source_step.proofs.emit.emit_file_data.Tie as tie
-use Rattle.source_step.proofs.emit.emit_file_data.Reads as reads
-use Rattle.source_step.proofs.emit.emit_file_data.Lts as lts
-use Rattle.basis.proofs.lesser.Reads as lesser-reads
-use Rattle.pdu.proofs.file_data.write_file_data.Reads as write-file-data-reads
 
--- src/emit.rt:42:9
 lesser-requires : tie.Need-lesser-requires
 lesser-requires c κs = search needs
 
--- src/emit.rt:43:41
 sub-lesser : tie.Need-sub-lesser
 sub-lesser c = search needs
 
--- src/emit.rt:43:17
 lesser-requires-2 : tie.Need-lesser-requires-2
 lesser-requires-2 c κs = search needs
 
--- src/emit.rt:43:13
 add-e : tie.Need-add-e
 add-e c = search needs
 
--- src/emit.rt:44:40
 sub-write-file-data : tie.Need-sub-write-file-data
 sub-write-file-data c = search needs
 
--- src/emit.rt:44:40
 part-write-file-data-start : tie.Need-part-write-file-data-start
 part-write-file-data-start c = search needs
 
--- src/emit.rt:44:40
 part-write-file-data-end : tie.Need-part-write-file-data-end
 part-write-file-data-end c = search needs
 
--- src/emit.rt:44:5
 write-file-data-requires : tie.Need-write-file-data-requires
 write-file-data-requires c κs = search needs
 
--- src/emit.rt:38:1
 same-length : tie.Need-same-length
 same-length c = search needs
 
--- src/emit.rt:38:1
 returns : tie.Need-returns
 returns c = let f = c .before .before .before .before .before .before .before .before .before .args .file .now in rw (← (cut f (c .before .before .before .before .before .before .before .before .before .args .offset) (c .before .before .before .before .before .before .before .before .before .args .length) (c .before .before .before .before .before .before .lesser .result) (c .before .before .before .before .before .lesser2 .result) (c .before .before .before .before .before .before .lesser .ensures) (c .before .before .before .before .before .lesser2 .ensures))) (c .before .before .write-file-data .ensures)
 

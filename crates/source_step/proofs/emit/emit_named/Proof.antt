@@ -6,43 +6,31 @@ use lib.Seq.{length-take-le}
 use borrow.Author.Needs.{needs}
 use Rattle.source_step.proofs.emit.emit_named.Statement.{statement}
 use Rattle.source_step.proofs.emit.emit_named.Tie as tie
-use Rattle.source_step.proofs.emit.emit_named.Reads as reads
-use Rattle.source_step.proofs.emit.emit_named.Lts as lts
-use Rattle.pdu.proofs.metadata.write_metadata.Reads as write-metadata-reads
 
--- src/emit.rt:32:13
 cast-m : tie.Need-cast-m
 cast-m c = search needs
 
--- src/emit.rt:33:13
 cast-n : tie.Need-cast-n
 cast-n c = search needs
 
--- src/emit.rt:34:52
 array-share-prefix-source : tie.Need-array-share-prefix-source
 array-share-prefix-source c = let e : length (c .before .before .before .before .before .before .args .names .source) ≡ 255 = search needs in omega arith
 
--- src/emit.rt:34:52
 slice-aggregate-write-metadata : tie.Need-slice-aggregate-write-metadata
 slice-aggregate-write-metadata c = sym (length-take-le _ _ (let e : length (c .before .before .before .before .before .before .before .args .names .source) ≡ 255 = search needs in omega arith))
 
--- src/emit.rt:34:66
 array-share-prefix-destination : tie.Need-array-share-prefix-destination
 array-share-prefix-destination c = let e : length (c .before .before .before .before .before .before .before .args .names .destination) ≡ 255 = search needs in omega arith
 
--- src/emit.rt:34:66
 slice-aggregate-write-metadata-2 : tie.Need-slice-aggregate-write-metadata-2
 slice-aggregate-write-metadata-2 c = sym (length-take-le _ _ (let e : length (c .before .before .before .before .before .before .before .before .args .names .destination) ≡ 255 = search needs in omega arith))
 
--- src/emit.rt:34:5
 write-metadata-requires : tie.Need-write-metadata-requires
 write-metadata-requires c κs = search needs
 
--- src/emit.rt:26:1
 same-length : tie.Need-same-length
 same-length c = search needs
 
--- src/emit.rt:26:1
 returns : tie.Need-returns
 returns c = search needs
 

@@ -3,15 +3,11 @@ use Rattle.basis.proofs.Pick.{picks}
 use Rattle.rules.specs.Step.{ackTimer}
 use Rattle.source_step.proofs.events.ack_timer.Statement.{statement}
 use Rattle.source_step.proofs.events.ack_timer.Tie as tie
-use Rattle.source_step.proofs.events.ack_timer.Reads as reads
-use Rattle.source_step.proofs.events.ack_timer.Lts as lts
 
--- src/events.rt:44:9
 returns : tie.Need-returns
 unfolding ackTimer
 returns c = search picks depth 8
 
--- src/events.rt:40:1
 returns-2 : tie.Need-returns-2
 unfolding ackTimer
 returns-2 c = search picks depth 8

@@ -2,20 +2,13 @@
 use borrow.Author.Needs.{needs}
 use Rattle.source_step.proofs.events.closed.Statement.{statement}
 use Rattle.source_step.proofs.events.closed.Tie as tie
-use Rattle.source_step.proofs.events.closed.Reads as reads
-use Rattle.source_step.proofs.events.closed.Lts as lts
-use Rattle.source_step.proofs.events.notice_of_completion.Reads as notice-of-completion-reads
-use Rattle.source_step.proofs.events.noting.Reads as noting-reads
 
--- src/events.rt:88:9
 notice-of-completion-requires : tie.Need-notice-of-completion-requires
 notice-of-completion-requires c κs = search needs
 
--- src/events.rt:89:5
 noting-requires : tie.Need-noting-requires
 noting-requires c κs = search needs
 
--- src/events.rt:85:1
 returns : tie.Need-returns
 returns c = rw (c .noting .ensures, c .before .notice-of-completion .ensures)
 

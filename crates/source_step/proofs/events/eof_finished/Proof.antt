@@ -4,25 +4,18 @@ use Rattle.rules.specs.Step.{eofFinished}
 use borrow.Author.Needs.{needs}
 use Rattle.source_step.proofs.events.eof_finished.Statement.{statement}
 use Rattle.source_step.proofs.events.eof_finished.Tie as tie
-use Rattle.source_step.proofs.events.eof_finished.Reads as reads
-use Rattle.source_step.proofs.events.eof_finished.Lts as lts
-use Rattle.source_step.proofs.events.notice_of_completion.Reads as notice-of-completion-reads
 
--- src/events.rt:66:9
 returns : tie.Need-returns
 unfolding eofFinished
 returns c = search picks depth 8
 
--- src/events.rt:69:9
 returns-2 : tie.Need-returns-2
 unfolding eofFinished
 returns-2 c = search picks depth 8
 
--- src/events.rt:72:5
 notice-of-completion-requires : tie.Need-notice-of-completion-requires
 notice-of-completion-requires c κs = search needs
 
--- src/events.rt:62:1
 returns-3 : tie.Need-returns-3
 unfolding eofFinished
 returns-3 c = rw (c .notice-of-completion .ensures) (search picks depth 8)

@@ -3,20 +3,15 @@ use Rattle.basis.proofs.Pick.{picks}
 use Rattle.rules.specs.Step.{eofTimer}
 use Rattle.source_step.proofs.events.eof_timer.Statement.{statement}
 use Rattle.source_step.proofs.events.eof_timer.Tie as tie
-use Rattle.source_step.proofs.events.eof_timer.Reads as reads
-use Rattle.source_step.proofs.events.eof_timer.Lts as lts
 
--- src/events.rt:53:9
 returns : tie.Need-returns
 unfolding eofTimer
 returns c = search picks depth 8
 
--- src/events.rt:56:9
 returns-2 : tie.Need-returns-2
 unfolding eofTimer
 returns-2 c = search picks depth 8
 
--- src/events.rt:49:1
 returns-3 : tie.Need-returns-3
 unfolding eofTimer
 returns-3 c = search picks depth 8

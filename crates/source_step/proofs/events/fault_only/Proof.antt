@@ -2,20 +2,13 @@
 use borrow.Author.Needs.{needs}
 use Rattle.source_step.proofs.events.fault_only.Statement.{statement}
 use Rattle.source_step.proofs.events.fault_only.Tie as tie
-use Rattle.source_step.proofs.events.fault_only.Reads as reads
-use Rattle.source_step.proofs.events.fault_only.Lts as lts
-use Rattle.source_step.proofs.events.fault_event.Reads as fault-event-reads
-use Rattle.source_step.proofs.events.noting.Reads as noting-reads
 
--- src/events.rt:102:9
 fault-event-requires : tie.Need-fault-event-requires
 fault-event-requires c κs = search needs
 
--- src/events.rt:103:5
 noting-requires : tie.Need-noting-requires
 noting-requires c κs = search needs
 
--- src/events.rt:99:1
 returns : tie.Need-returns
 returns c = rw (c .noting .ensures, c .before .fault-event .ensures)
 

@@ -3,15 +3,11 @@ use Rattle.basis.proofs.Pick.{picks}
 use Rattle.rules.specs.Step.{finishedIf}
 use Rattle.source_step.proofs.events.notice_of_completion.Statement.{statement}
 use Rattle.source_step.proofs.events.notice_of_completion.Tie as tie
-use Rattle.source_step.proofs.events.notice_of_completion.Reads as reads
-use Rattle.source_step.proofs.events.notice_of_completion.Lts as lts
 
--- src/events.rt:34:9
 returns : tie.Need-returns
 unfolding finishedIf
 returns c = search picks depth 8
 
--- src/events.rt:30:1
 returns-2 : tie.Need-returns-2
 unfolding finishedIf
 returns-2 c = search picks depth 8

@@ -4,25 +4,17 @@ use Rattle.rules.specs.Step.{repairOf}
 use borrow.Author.Needs.{needs}
 use Rattle.source_step.proofs.sending.repair_of.Statement.{statement}
 use Rattle.source_step.proofs.sending.repair_of.Tie as tie
-use Rattle.source_step.proofs.sending.repair_of.Reads as reads
-use Rattle.source_step.proofs.sending.repair_of.Lts as lts
-use Rattle.source_queue.proofs.queue.is_metadata.Reads as is-metadata-reads
-use Rattle.source_queue.proofs.queue.piece.Reads as piece-reads
 
--- src/sending.rt:30:8
 is-metadata-requires : tie.Need-is-metadata-requires
 is-metadata-requires c κs = search needs
 
--- src/sending.rt:31:9
 returns : tie.Need-returns
 unfolding repairOf
 returns c = search (picks, told) depth 8
 
--- src/sending.rt:33:9
 piece-requires : tie.Need-piece-requires
 piece-requires c κs = search needs
 
--- src/sending.rt:27:1
 returns-2 : tie.Need-returns-2
 unfolding repairOf
 returns-2 c = rw (c .piece .ensures) (search (picks, told) depth 8)
