@@ -1,52 +1,23 @@
--- The frame of a PDU, over any body: how long it is, and what a writer leaves that refused or wrote header, body and CRC one behind the other.
+-- The frame of a PDU, over any body: what a writer leaves that refused, or wrote header, body and CRC one behind the other.
 -- Assumes nothing.
-use mathlib.Core.Path.{_≡_, refl, sym, ap, _∙_}
+use mathlib.Core.Path.{_≡_, sym, ap, _∙_}
 use mathlib.Core.Bool.{Bool, true, false}
-use mathlib.Core.List.{List, [], _∷_, _++_}
-use Prim.Native.Nat.{ℕ, _+_, _*_, _<_, _≤_}
+use mathlib.Core.List.{List, _++_}
+use Prim.Native.Nat.{ℕ, _+_, _<_, _≤_}
 use native.Mathlib.Omega.{arith}
 use native.Mathlib.Nat.{zero-add}
 use borrow.Author.Tests.{lt-ltb, le-ltb}
 use lib.ListN.{length, take, length-append}
 use Rattle.basis.specs.Bytes.{be}
 use Rattle.basis.specs.Laid.{laid, inFront}
-use Rattle.basis.proofs.Bytes.{length-be}
 use Rattle.basis.proofs.Laid.{laid-none, then, take-front, in-front, kept}
-use Rattle.rules.specs.Fields.{Field, nat, raw, bytesOf, size, wire, sizes}
-use Rattle.rules.specs.Numbers.{H, F, C}
+use Rattle.rules.specs.Fields.{sizes}
+use Rattle.rules.specs.Numbers.{H, C}
 use Rattle.rules.specs.Checksum.{crc16}
-use Rattle.rules.specs.Layout.{Said, headFields, headBytes, layout, trailer, pduBytes, isFileData, bodyBytes, encode, pduLength, writtenOf}
+use Rattle.rules.specs.Layout.{Said, headBytes, layout, trailer, pduBytes, isFileData, bodyBytes, encode, pduLength, writtenOf}
 use Rattle.rules.specs.declared.Head.{Head}
-use Rattle.rules.specs.declared.Written.{Written}
 use Rattle.rules.specs.declared.Written.the-variants.{Short, Wrote}
-
--- ---- lengths
-
-length-field : (f : Field) → length (bytesOf f) ≡ size f
-length-field (nat w v) = length-be w v
-length-field (raw bs) = refl
-
-length-wire : (fs : List Field) → length (wire fs) ≡ sizes fs
-length-wire [] = refl
-length-wire (f ∷ fs) = simp (length-append, length-field, length-wire fs)
-
-pub length-head : (h : Head) (filedata tosender : Bool) (n : ℕ) → length (headBytes h filedata tosender n) ≡ H h
-unfolding headBytes
-length-head h filedata tosender n = length-wire (headFields h filedata tosender n []) ∙ omega arith
-
-length-trailer : (crc : Bool) (bs : List ℕ) → length (trailer crc bs) ≡ C crc
-unfolding trailer
-length-trailer true bs = length-be 2 _
-length-trailer false bs = refl
-
-pub length-body : (large : Bool) (m : Said) → length (bodyBytes large m) ≡ sizes (layout large m)
-unfolding bodyBytes
-length-body large m = length-wire (layout large m)
-
--- a PDU is as long as its definition says
-pub length-encode : (h : Head) (m : Said) → length (encode h m) ≡ pduLength h m
-unfolding encode pduBytes pduLength
-length-encode h m = simp (length-append, length-head, length-body, length-trailer)
+use Rattle.pdu.proofs.Lengths.{length-head, length-body, length-encode}
 
 -- ---- the CRC where there is one
 

@@ -10,14 +10,17 @@ ghost use Rattle.basis.specs.Laid.{laid, inFront};
 ghost use Rattle.rules.specs.Fields.{sizes};
 ghost use Rattle.rules.specs.Layout.{ackFinished, layout, bodyBytes, encode, writtenOf};
 
-// 0x51: the acked code is Finished's, 5, and its subtype 1.
+const ACK: u64 = 6;
+// Finished's code, 5, and its subtype, 1.
+const OF_FINISHED: u64 = 0x51;
+
 fn put_ack_finished(out: &mut [u8], at: usize, large: bool, condition: u8, status: u8) -> usize
     requires { ⌜ at + sizes (layout large (ackFinished condition status)) ≤ length (now out) ⌝ }
     ensures { λ r. ⌜ (r ≡ at + sizes (layout large (ackFinished condition status))) × (now (out .exit) ≡ laid (now (out .entry)) at (bodyBytes large (ackFinished condition status))) ⌝ }
 {
     let flags = (condition as u64) * 16 + (status as u64);
-    let p0 = put_be(out, at, 1, 6);
-    let p1 = put_be(out, p0, 1, 0x51);
+    let p0 = put_be(out, at, 1, ACK);
+    let p1 = put_be(out, p0, 1, OF_FINISHED);
     put_be(out, p1, 1, flags)
 }
 
@@ -25,8 +28,8 @@ pub fn write_ack_finished(out: &mut [u8], h: Head, condition: u8, status: u8) ->
     ensures { λ r. ⌜ r ≡ writtenOf (encode h (ackFinished condition status)) (now (out .entry)) ⌝ }
     ensures { λ r. ⌜ now (out .exit) ≡ inFront (encode h (ackFinished condition status)) (now (out .entry)) ⌝ }
 {
-    let c = header::crc_length(h.crc);
-    let n = 3 + c;
+    // The data field: the body is 3 bytes.
+    let n = 3 + header::crc_length(h.crc);
     if out.len() < header::head_length(h) + n {
         return Written::Short;
     }

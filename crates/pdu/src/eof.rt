@@ -10,13 +10,15 @@ ghost use Rattle.basis.specs.Laid.{laid, inFront};
 ghost use Rattle.rules.specs.Fields.{sizes};
 ghost use Rattle.rules.specs.Layout.{eof, layout, bodyBytes, encode, writtenOf};
 
+const EOF: u64 = 4;
+
 fn put_eof(out: &mut [u8], at: usize, large: bool, condition: u8, sum: u32, size: u64) -> usize
     requires { ⌜ at + sizes (layout large (eof condition sum size)) ≤ length (now out) ⌝ }
     ensures { λ r. ⌜ (r ≡ at + sizes (layout large (eof condition sum size))) × (now (out .exit) ≡ laid (now (out .entry)) at (bodyBytes large (eof condition sum size))) ⌝ }
 {
     let f = header::size_width(large);
     let flags = (condition as u64) * 16;
-    let p0 = put_be(out, at, 1, 4);
+    let p0 = put_be(out, at, 1, EOF);
     let p1 = put_be(out, p0, 1, flags);
     let p2 = put_be(out, p1, 4, sum as u64);
     put_be(out, p2, f, size)
@@ -26,8 +28,8 @@ pub fn write_eof(out: &mut [u8], h: Head, condition: u8, sum: u32, size: u64) ->
     ensures { λ r. ⌜ r ≡ writtenOf (encode h (eof condition sum size)) (now (out .entry)) ⌝ }
     ensures { λ r. ⌜ now (out .exit) ≡ inFront (encode h (eof condition sum size)) (now (out .entry)) ⌝ }
 {
-    let c = header::crc_length(h.crc);
-    let n = 6 + header::size_width(h.large) + c;
+    // The data field: code, condition and checksum are 6 bytes.
+    let n = 6 + header::size_width(h.large) + header::crc_length(h.crc);
     if out.len() < header::head_length(h) + n {
         return Written::Short;
     }

@@ -24,8 +24,7 @@ pub fn write_file_data(out: &mut [u8], h: Head, offset: u64, bytes: &[u8]) -> Wr
     ensures { λ r. ⌜ r ≡ writtenOf (encode h (fileData offset (now (bytes .entry)))) (now (out .entry)) ⌝ }
     ensures { λ r. ⌜ now (out .exit) ≡ inFront (encode h (fileData offset (now (bytes .entry)))) (now (out .entry)) ⌝ }
 {
-    let c = header::crc_length(h.crc);
-    let n = header::size_width(h.large) + bytes.len() + c;
+    let n = header::size_width(h.large) + bytes.len() + header::crc_length(h.crc);
     if out.len() < header::head_length(h) + n {
         return Written::Short;
     }

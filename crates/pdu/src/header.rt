@@ -14,21 +14,21 @@ ghost use Rattle.rules.specs.Layout.{byte0, byte3, headBytes, trailer};
 // ---- lengths
 
 // H: the header's own length.
-pub fn head_length(h: Head) -> usize
+pub(crate) fn head_length(h: Head) -> usize
     ensures { λ r. ⌜ (r ≡ headLength h) × (r < 1024) ⌝ }
 {
     4 + 2 * (h.source.0 as usize) + (h.number.0 as usize)
 }
 
 // F: the width of a size or an offset.
-pub fn size_width(large: bool) -> usize
+pub(crate) fn size_width(large: bool) -> usize
     ensures { λ r. ⌜ (r ≡ F large) × (r ≤ 8) ⌝ }
 {
     4 + 4 * (bit_of(large) as usize)
 }
 
 // C: the length of the CRC.
-pub fn crc_length(crc: bool) -> usize
+pub(crate) fn crc_length(crc: bool) -> usize
     ensures { λ r. ⌜ (r ≡ C crc) × (r ≤ 2) ⌝ }
 {
     2 * (bit_of(crc) as usize)
@@ -67,7 +67,7 @@ fn pack3(idwidth: u8, seqwidth: u8) -> u8
 // ---- the header, and the CRC
 
 // The header towards the receiver in front of out; n is the length of the data field. Both ids take the source id's width.
-pub fn put_head(out: &mut [u8], h: Head, filedata: bool, n: usize) -> usize
+pub(crate) fn put_head(out: &mut [u8], h: Head, filedata: bool, n: usize) -> usize
     requires { ⌜ headLength h ≤ length (now out) ⌝ }
     ensures { λ r. ⌜ (r ≡ headLength h) × (now (out .exit) ≡ laid (now (out .entry)) 0 (headBytes h filedata false n)) ⌝ }
 {
@@ -84,7 +84,7 @@ pub fn put_head(out: &mut [u8], h: Head, filedata: bool, n: usize) -> usize
 }
 
 // Where the flag asks for it, the CRC over the first n bytes of out, behind them.
-pub fn put_crc(out: &mut [u8], n: usize, crc: bool) -> usize
+pub(crate) fn put_crc(out: &mut [u8], n: usize, crc: bool) -> usize
     requires { ⌜ n + C crc ≤ length (now out) ⌝ }
     ensures { λ r. ⌜ (r ≡ n + C crc) × (now (out .exit) ≡ laid (now (out .entry)) n (trailer crc (take n (now (out .entry))))) ⌝ }
 {

@@ -4,5 +4,5 @@
 pub mod ack;
 pub mod eof;
 pub mod file_data;
-pub mod header;
+mod header;
 pub mod metadata;

@@ -12,6 +12,8 @@ ghost use Rattle.basis.specs.Laid.{laid, inFront};
 ghost use Rattle.rules.specs.Fields.{sizes};
 ghost use Rattle.rules.specs.Layout.{metadata, layout, bodyBytes, encode, writtenOf};
 
+const METADATA: u64 = 7;
+
 fn put_metadata(
     out: &mut [u8],
     at: usize,
@@ -27,7 +29,7 @@ fn put_metadata(
 {
     let f = header::size_width(large);
     let flags = (bit_of(closure) as u64) * 64 + (kind as u64);
-    let p0 = put_be(out, at, 1, 7);
+    let p0 = put_be(out, at, 1, METADATA);
     let p1 = put_be(out, p0, 1, flags);
     let p2 = put_be(out, p1, f, size);
     let p3 = put_be(out, p2, 1, source.len() as u64);
@@ -48,9 +50,8 @@ pub fn write_metadata(
     ensures { λ r. ⌜ r ≡ writtenOf (encode h (metadata closure kind size (now (source .entry)) (now (destination .entry)))) (now (out .entry)) ⌝ }
     ensures { λ r. ⌜ now (out .exit) ≡ inFront (encode h (metadata closure kind size (now (source .entry)) (now (destination .entry)))) (now (out .entry)) ⌝ }
 {
-    let c = header::crc_length(h.crc);
-    let n = 4 + header::size_width(h.large) + destination.len() + c;
-    // The two names together may be longer than a usize: the second test is made by a difference.
+    // The data field without the source name: the lengths of two slices may add up to more than a usize holds.
+    let n = 4 + header::size_width(h.large) + destination.len() + header::crc_length(h.crc);
     if out.len() < source.len() {
         return Written::Short;
     }

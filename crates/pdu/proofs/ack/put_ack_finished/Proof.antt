@@ -4,38 +4,29 @@ use Rattle.rules.specs.Layout.{bodyBytes}
 use borrow.Author.Needs.{needs}
 use Rattle.pdu.proofs.ack.put_ack_finished.Statement.{statement}
 use Rattle.pdu.proofs.ack.put_ack_finished.Tie as tie
-use Rattle.pdu.proofs.ack.put_ack_finished.Reads as reads
-use Rattle.pdu.proofs.ack.put_ack_finished.Lts as lts
-use Rattle.basis.proofs.put_be.Reads as put-be-reads
 
--- src/ack.rt:18:17
 mul-flags : tie.Need-mul-flags
 mul-flags c = search needs
 
--- src/ack.rt:18:17
 add-flags : tie.Need-add-flags
 add-flags c = search needs
 
--- src/ack.rt:19:9
 put-be-requires : tie.Need-put-be-requires
 put-be-requires c κs = search needs
 
--- src/ack.rt:20:9
 put-be-requires-2 : tie.Need-put-be-requires-2
 put-be-requires-2 c κs = search needs
 
--- src/ack.rt:21:5
 put-be-requires-3 : tie.Need-put-be-requires-3
 put-be-requires-3 c κs = search needs
 
--- src/ack.rt:14:1
 same-length : tie.Need-same-length
 same-length c = search needs
 
--- src/ack.rt:14:1
 returns : tie.Need-returns
 unfolding bodyBytes
-returns c = let w3 = c .before .before in
+returns c =
+    let w3 = c .before .before in
     let w2 = w3 .before .before .before .before in
     let w1 = w2 .before .before .before .before in (
       search needs,

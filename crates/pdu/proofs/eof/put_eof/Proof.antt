@@ -4,43 +4,32 @@ use Rattle.rules.specs.Layout.{bodyBytes}
 use borrow.Author.Needs.{needs}
 use Rattle.pdu.proofs.eof.put_eof.Statement.{statement}
 use Rattle.pdu.proofs.eof.put_eof.Tie as tie
-use Rattle.pdu.proofs.eof.put_eof.Reads as reads
-use Rattle.pdu.proofs.eof.put_eof.Lts as lts
-use Rattle.basis.proofs.put_be.Reads as put-be-reads
-use Rattle.pdu.proofs.header.size_width.Reads as size-width-reads
 
--- src/eof.rt:17:9
 size-width-requires : tie.Need-size-width-requires
 size-width-requires c κs = search needs
 
--- src/eof.rt:18:17
 mul-flags : tie.Need-mul-flags
 mul-flags c = search needs
 
--- src/eof.rt:19:9
 put-be-requires : tie.Need-put-be-requires
 put-be-requires c κs = search needs
 
--- src/eof.rt:20:9
 put-be-requires-2 : tie.Need-put-be-requires-2
 put-be-requires-2 c κs = search needs
 
--- src/eof.rt:21:9
 put-be-requires-3 : tie.Need-put-be-requires-3
 put-be-requires-3 c κs = search needs
 
--- src/eof.rt:22:5
 put-be-requires-4 : tie.Need-put-be-requires-4
 put-be-requires-4 c κs = search needs
 
--- src/eof.rt:13:1
 same-length : tie.Need-same-length
 same-length c = search needs
 
--- src/eof.rt:13:1
 returns : tie.Need-returns
 unfolding bodyBytes
-returns c = let w4 = c .before .before in
+returns c =
+    let w4 = c .before .before in
     let w3 = w4 .before .before .before .before in
     let w2 = w3 .before .before .before .before in
     let w1 = w2 .before .before .before .before in (

@@ -4,32 +4,23 @@ use Rattle.rules.specs.Layout.{bodyBytes}
 use borrow.Author.Needs.{needs}
 use Rattle.pdu.proofs.file_data.put_file_data.Statement.{statement}
 use Rattle.pdu.proofs.file_data.put_file_data.Tie as tie
-use Rattle.pdu.proofs.file_data.put_file_data.Reads as reads
-use Rattle.pdu.proofs.file_data.put_file_data.Lts as lts
-use Rattle.basis.proofs.put_be.Reads as put-be-reads
-use Rattle.basis.proofs.put_bytes.Reads as put-bytes-reads
-use Rattle.pdu.proofs.header.size_width.Reads as size-width-reads
 
--- src/file_data.rt:18:9
 size-width-requires : tie.Need-size-width-requires
 size-width-requires c κs = search needs
 
--- src/file_data.rt:19:9
 put-be-requires : tie.Need-put-be-requires
 put-be-requires c κs = search needs
 
--- src/file_data.rt:20:5
 put-bytes-requires : tie.Need-put-bytes-requires
 put-bytes-requires c κs = search needs
 
--- src/file_data.rt:14:1
 same-length : tie.Need-same-length
 same-length c = search needs
 
--- src/file_data.rt:14:1
 returns : tie.Need-returns
 unfolding bodyBytes
-returns c = let w2 = c .before .before in
+returns c =
+    let w2 = c .before .before in
     let w1 = w2 .before .before .before .before in (
       search needs,
       rw (← w1 .before .before .size-width .ensures .0)

@@ -5,64 +5,45 @@ use Rattle.rules.specs.Layout.{pduLength}
 use borrow.Author.Needs.{needs}
 use Rattle.pdu.proofs.file_data.write_file_data.Statement.{statement}
 use Rattle.pdu.proofs.file_data.write_file_data.Tie as tie
-use Rattle.pdu.proofs.file_data.write_file_data.Reads as reads
-use Rattle.pdu.proofs.file_data.write_file_data.Lts as lts
-use Rattle.pdu.proofs.file_data.put_file_data.Reads as put-file-data-reads
-use Rattle.pdu.proofs.header.crc_length.Reads as crc-length-reads
-use Rattle.pdu.proofs.header.head_length.Reads as head-length-reads
-use Rattle.pdu.proofs.header.put_crc.Reads as put-crc-reads
-use Rattle.pdu.proofs.header.put_head.Reads as put-head-reads
-use Rattle.pdu.proofs.header.size_width.Reads as size-width-reads
 
--- src/file_data.rt:27:9
-crc-length-requires : tie.Need-crc-length-requires
-crc-length-requires c κs = search needs
-
--- src/file_data.rt:28:13
 size-width-requires : tie.Need-size-width-requires
 size-width-requires c κs = search needs
 
--- src/file_data.rt:28:13
 add-n : tie.Need-add-n
 add-n c = search needs
 
--- src/file_data.rt:28:13
+crc-length-requires : tie.Need-crc-length-requires
+crc-length-requires c κs = search needs
+
 add-n-2 : tie.Need-add-n-2
 add-n-2 c = search needs
 
--- src/file_data.rt:29:20
 head-length-requires : tie.Need-head-length-requires
 head-length-requires c κs = search needs
 
--- src/file_data.rt:29:20
 add-if1 : tie.Need-add-if1
 add-if1 c = search needs
 
--- src/file_data.rt:30:9
 returns : tie.Need-returns
 unfolding pduLength
 returns c = refused _ _ _ (omega arith)
 
--- src/file_data.rt:32:9
 put-head-requires : tie.Need-put-head-requires
 put-head-requires c κs = search needs
 
--- src/file_data.rt:33:9
 put-file-data-requires : tie.Need-put-file-data-requires
 put-file-data-requires c κs = search needs
 
--- src/file_data.rt:34:20
 put-crc-requires : tie.Need-put-crc-requires
 put-crc-requires c κs = search needs
 
--- src/file_data.rt:23:1
 same-length : tie.Need-same-length
 same-length c = search needs
 
--- src/file_data.rt:23:1
 returns-2 : tie.Need-returns-2
 unfolding pduLength
-returns-2 c = let w3 = c .before .before in
+returns-2 c =
+    let w3 = c .before .before in
     let w2 = w3 .before .before .before .before in
     let w1 = w2 .before .before .before .before in
     written _ _ _ _ _ _ _ _ _ _ (omega arith) (omega arith) (w1 .put-head .ensures) (w2 .put-file-data .ensures) (w3 .put-crc .ensures)
@@ -71,9 +52,9 @@ pub write-file-data-spec : {M : Type 1} → statement M
 write-file-data-spec =
     tie.close
     (tie.spec
-    crc-length-requires
     size-width-requires
     add-n
+    crc-length-requires
     add-n-2
     head-length-requires
     add-if1

@@ -4,33 +4,25 @@ use Rattle.pdu.proofs.Packs.{packed0}
 use borrow.Author.Needs.{needs}
 use Rattle.pdu.proofs.header.pack0.Statement.{statement}
 use Rattle.pdu.proofs.header.pack0.Tie as tie
-use Rattle.pdu.proofs.header.pack0.Reads as reads
-use Rattle.pdu.proofs.header.pack0.Lts as lts
-use Rattle.basis.proofs.bit_of.Reads as bit-of-reads
 
--- src/header.rt:43:9
 bit-of-requires : tie.Need-bit-of-requires
 bit-of-requires c κs = search needs
 
--- src/header.rt:44:9
 bit-of-requires-2 : tie.Need-bit-of-requires-2
 bit-of-requires-2 c κs = search needs
 
--- src/header.rt:45:9
 bit-of-requires-3 : tie.Need-bit-of-requires-3
 bit-of-requires-3 c κs = search needs
 
--- src/header.rt:46:9
 bit-of-requires-4 : tie.Need-bit-of-requires-4
 bit-of-requires-4 c κs = search needs
 
--- src/header.rt:47:9
 bit-of-requires-5 : tie.Need-bit-of-requires-5
 bit-of-requires-5 c κs = search needs
 
--- src/header.rt:40:1
 returns : tie.Need-returns
-returns c = let m = c .before .before in
+returns c =
+    let m = c .before .before in
     let d = m .before in
     let t = d .before in
     packed0 _ _ _ _ _ (t .bit-of .ensures .1) (d .bit-of2 .ensures .1) (m .bit-of3 .ensures .1) (c .before .bit-of4 .ensures .1) (c .bit-of5 .ensures .1)

@@ -3,19 +3,13 @@ use Rattle.pdu.proofs.Packs.{packed3}
 use borrow.Author.Needs.{needs}
 use Rattle.pdu.proofs.header.pack3.Statement.{statement}
 use Rattle.pdu.proofs.header.pack3.Tie as tie
-use Rattle.pdu.proofs.header.pack3.Reads as reads
-use Rattle.pdu.proofs.header.pack3.Lts as lts
-use Rattle.pdu.proofs.header.less_one.Reads as less-one-reads
 
--- src/header.rt:62:9
 less-one-requires : tie.Need-less-one-requires
 less-one-requires c κs = search needs
 
--- src/header.rt:63:9
 less-one-requires-2 : tie.Need-less-one-requires-2
 less-one-requires-2 c κs = search needs
 
--- src/header.rt:59:1
 returns : tie.Need-returns
 returns c = rw (← c .before .less-one .ensures, ← c .less-one2 .ensures) (packed3 _ _)
 

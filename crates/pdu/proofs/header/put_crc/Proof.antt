@@ -6,41 +6,30 @@ use Rattle.pdu.proofs.Frame.{crc-put, crc-left}
 use borrow.Author.Needs.{needs}
 use Rattle.pdu.proofs.header.put_crc.Statement.{statement}
 use Rattle.pdu.proofs.header.put_crc.Tie as tie
-use Rattle.pdu.proofs.header.put_crc.Reads as reads
-use Rattle.pdu.proofs.header.put_crc.Lts as lts
-use Rattle.basis.proofs.put_be.Reads as put-be-reads
-use Rattle.checksum.proofs.crc16.Reads as crc16-reads
 
--- src/header.rt:92:25
 slice-reshare-prefix-crc16 : tie.Need-slice-reshare-prefix-crc16
 slice-reshare-prefix-crc16 c = search needs
 
--- src/header.rt:92:25
 slice-aggregate-crc16 : tie.Need-slice-aggregate-crc16
 slice-aggregate-crc16 c = sym (length-take-le _ _ (omega arith))
 
--- src/header.rt:92:13
 crc16-requires : tie.Need-crc16-requires
 crc16-requires c κs = search needs
 
--- src/header.rt:93:34
 cast-put-be : tie.Need-cast-put-be
 cast-put-be c = search needs
 
--- src/header.rt:93:9
 put-be-requires : tie.Need-put-be-requires
 put-be-requires c κs = rw (c .before .before .before .if1 .taken) at (c .before .before .before .before .before .pre)
 
--- src/header.rt:93:9
 same-length : tie.Need-same-length
 same-length c = search needs
 
--- src/header.rt:93:9
 returns : tie.Need-returns
-returns c = let w = c .before .before in
+returns c =
+    let w = c .before .before in
     crc-put _ _ _ _ _ _ (w .before .before .before .before .if1 .taken) (w .before .before .crc16 .ensures) (w .put-be .ensures)
 
--- src/header.rt:87:1
 returns-2 : tie.Need-returns-2
 returns-2 c = crc-left _ _ _ (c .if1 .left)
 

@@ -4,72 +4,53 @@ use Rattle.rules.specs.Layout.{headBytes}
 use borrow.Author.Needs.{needs}
 use Rattle.pdu.proofs.header.put_head.Statement.{statement}
 use Rattle.pdu.proofs.header.put_head.Tie as tie
-use Rattle.pdu.proofs.header.put_head.Reads as reads
-use Rattle.pdu.proofs.header.put_head.Lts as lts
-use Rattle.basis.proofs.put_be.Reads as put-be-reads
-use Rattle.pdu.proofs.header.pack0.Reads as pack0-reads
-use Rattle.pdu.proofs.header.pack3.Reads as pack3-reads
 
--- src/header.rt:76:9
 pack0-requires : tie.Need-pack0-requires
 pack0-requires c κs = search needs
 
--- src/header.rt:77:9
 pack3-requires : tie.Need-pack3-requires
 pack3-requires c κs = search needs
 
--- src/header.rt:78:32
 cast-put-be : tie.Need-cast-put-be
 cast-put-be c = search needs
 
--- src/header.rt:78:9
 put-be-requires : tie.Need-put-be-requires
 put-be-requires c κs = search needs
 
--- src/header.rt:79:9
 put-be-requires-2 : tie.Need-put-be-requires-2
 put-be-requires-2 c κs = search needs
 
--- src/header.rt:80:33
 cast-put-be-2 : tie.Need-cast-put-be-2
 cast-put-be-2 c = search needs
 
--- src/header.rt:80:9
 put-be-requires-3 : tie.Need-put-be-requires-3
 put-be-requires-3 c κs = search needs
 
--- src/header.rt:81:30
 cast-put-be-3 : tie.Need-cast-put-be-3
 cast-put-be-3 c = search needs
 
--- src/header.rt:81:9
 put-be-requires-4 : tie.Need-put-be-requires-4
 put-be-requires-4 c κs = search needs
 
--- src/header.rt:82:30
 cast-put-be-4 : tie.Need-cast-put-be-4
 cast-put-be-4 c = search needs
 
--- src/header.rt:82:9
 put-be-requires-5 : tie.Need-put-be-requires-5
 put-be-requires-5 c κs = search needs
 
--- src/header.rt:83:21
 cast-put-be-5 : tie.Need-cast-put-be-5
 cast-put-be-5 c = search needs
 
--- src/header.rt:83:5
 put-be-requires-6 : tie.Need-put-be-requires-6
 put-be-requires-6 c κs = search needs
 
--- src/header.rt:70:1
 same-length : tie.Need-same-length
 same-length c = search needs
 
--- src/header.rt:70:1
 returns : tie.Need-returns
 unfolding headBytes
-returns c = let w6 = c .before .before in
+returns c =
+    let w6 = c .before .before in
     let w5 = w6 .before .before .before .before in
     let w4 = w5 .before .before .before .before in
     let w3 = w4 .before .before .before .before in

@@ -5,69 +5,50 @@ use Rattle.rules.specs.Layout.{bodyBytes}
 use borrow.Author.Needs.{needs}
 use Rattle.pdu.proofs.metadata.put_metadata.Statement.{statement}
 use Rattle.pdu.proofs.metadata.put_metadata.Tie as tie
-use Rattle.pdu.proofs.metadata.put_metadata.Reads as reads
-use Rattle.pdu.proofs.metadata.put_metadata.Lts as lts
-use Rattle.basis.proofs.bit_of.Reads as bit-of-reads
-use Rattle.basis.proofs.put_be.Reads as put-be-reads
-use Rattle.basis.proofs.put_bytes.Reads as put-bytes-reads
-use Rattle.pdu.proofs.header.size_width.Reads as size-width-reads
 
--- src/metadata.rt:28:9
 size-width-requires : tie.Need-size-width-requires
 size-width-requires c κs = search needs
 
--- src/metadata.rt:29:18
 bit-of-requires : tie.Need-bit-of-requires
 bit-of-requires c κs = search needs
 
--- src/metadata.rt:29:18
 cast-flags : tie.Need-cast-flags
 cast-flags c = search needs
 
--- src/metadata.rt:29:17
 mul-flags : tie.Need-mul-flags
 mul-flags c = search needs
 
--- src/metadata.rt:29:17
 add-flags : tie.Need-add-flags
 add-flags c = search needs
 
--- src/metadata.rt:30:9
 put-be-requires : tie.Need-put-be-requires
 put-be-requires c κs = search needs
 
--- src/metadata.rt:31:9
 put-be-requires-2 : tie.Need-put-be-requires-2
 put-be-requires-2 c κs = search needs
 
--- src/metadata.rt:32:9
 put-be-requires-3 : tie.Need-put-be-requires-3
 put-be-requires-3 c κs = search needs
 
--- src/metadata.rt:33:9
 put-be-requires-4 : tie.Need-put-be-requires-4
 put-be-requires-4 c κs = search needs
 
--- src/metadata.rt:34:9
 put-bytes-requires : tie.Need-put-bytes-requires
 put-bytes-requires c κs = search needs
 
--- src/metadata.rt:35:9
 put-be-requires-5 : tie.Need-put-be-requires-5
 put-be-requires-5 c κs = search needs
 
--- src/metadata.rt:36:5
 put-bytes-requires-2 : tie.Need-put-bytes-requires-2
 put-bytes-requires-2 c κs = search needs
 
--- src/metadata.rt:15:1
 same-length : tie.Need-same-length
 same-length c = search needs
 
--- src/metadata.rt:15:1
 returns : tie.Need-returns
 unfolding bodyBytes
-returns c = let w7 = c .before .before in
+returns c =
+    let w7 = c .before .before in
     let w6 = w7 .before .before .before .before in
     let w5 = w6 .before .before .before .before in
     let w4 = w5 .before .before .before .before in
