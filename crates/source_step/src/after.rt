@@ -1,5 +1,4 @@
-// The state after each case.
-use super::sending::next_length;
+// The state after each case. The numbers are those of document 01's list.
 use super::state;
 use super::state::no_eof;
 use rules::Due;
@@ -7,6 +6,7 @@ use rules::Eof;
 use rules::Sending;
 use rules::State;
 use rules::TransactionStep;
+use source_due::sending::next_length;
 use source_queue::queue;
 ghost use mathlib.Core.Path.{_≡_};
 ghost use Prim.Native.Nat.{_+_, _<_};

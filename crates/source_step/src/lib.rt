@@ -2,10 +2,7 @@
 // A step decides what is due, then has its PDU written, and only then makes the new state, so that a refusal changes nothing.
 mod after;
 mod cancelling;
-mod due;
 mod emit;
-mod events;
-mod sending;
 mod state;
 
 use rules::Answer;
@@ -18,6 +15,9 @@ use rules::State;
 use rules::Stepped;
 use rules::TransactionSeqNum;
 use rules::Written;
+use source_due::due;
+use source_due::events;
+use source_due::sending;
 ghost use mathlib.Core.Path.{_≡_};
 ghost use lib.ListN.{length};
 ghost use Rattle.basis.specs.Laid.{inFront};
