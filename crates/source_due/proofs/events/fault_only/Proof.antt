@@ -10,7 +10,7 @@ noting-requires : tie.Need-noting-requires
 noting-requires c κs = search needs
 
 returns : tie.Need-returns
-returns c = rw (c .noting .ensures, c .before .fault-event .ensures)
+returns c = cc
 
 pub fault-only-spec : {M : Type 1} → statement M
 fault-only-spec = tie.close (tie.spec fault-event-requires noting-requires returns)
