@@ -31,7 +31,7 @@ module _ (large : Bool) (s : List ℕ) where
       ap₂ (λ (r : SegmentRequest) (rs : List SegmentRequest). r ∷ rs) (request-past i h ∙ sym (request-past j l))
       (past k (i + F large + F large) (j + F large + F large) (omega arith) (omega arith))
 
-  at-end : (k i : ℕ) → requestsFrom k large s i ≡ requestsFrom k large s (min i (length s))
+  pub at-end : (k i : ℕ) → requestsFrom k large s i ≡ requestsFrom k large s (min i (length s))
   at-end k i = go (leb i (length s)) refl
     where
       go : (b : Bool) → leb i (length s) ≡ b → requestsFrom k large s i ≡ requestsFrom k large s (min i (length s))

@@ -13,7 +13,7 @@ ghost use Rattle.rules.specs.Queues.{anyInvalid, owing, pushAll};
 ghost use Rattle.rules.specs.Reading.{requestsFrom};
 
 // The place of the next pair, or the end.
-fn next_pair(n: usize, large: bool, at: usize) -> usize
+pub fn next_pair(n: usize, large: bool, at: usize) -> usize
     ensures { λ r. ⌜ r ≡ min (at + F large + F large) n ⌝ }
 {
     if n <= at {
