@@ -2,7 +2,7 @@
 // Every function takes any bytes at all; a PDU that document 01's layouts don't know is answered by Malformed.
 mod ack;
 pub mod directive;
-mod field;
+pub mod field;
 mod finished;
 pub mod header;
 mod keep_alive;

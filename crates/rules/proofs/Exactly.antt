@@ -1,0 +1,184 @@
+-- A step's refusals and a cancel's no, exactly when document 01 says so; a refusal changes nothing.
+-- Assumes nothing.
+use mathlib.Core.Path.{_≡_, refl}
+use mathlib.Core.Logic.{_⊎_, inl, inr, ⊎-elim}
+use mathlib.Core.Bool.{Bool, true, false, true≢false, false≢true}
+use mathlib.Core.List.{List, _++_}
+use Prim.Native.Nat.{ℕ, _-_}
+use lib.Dec.{eqb, ltb}
+use lib.ListN.{length, drop}
+use Rattle.basis.specs.Pick.{pick}
+use Rattle.basis.specs.Bytes.{part}
+use Rattle.basis.specs.Laid.{inFront}
+use Rattle.basis.proofs.Pick.{cases}
+use Rattle.rules.specs.Reading.{framedIn, bodyOf}
+use Rattle.rules.specs.Refusals.{answerNo}
+use Rattle.rules.specs.States.{isIdle}
+use Rattle.rules.specs.Queues.{isMetadata, owes, anyInvalid, owing, free}
+use Rattle.rules.specs.Put.{putAnswer, putState, byAnswer, putSpec}
+use Rattle.rules.specs.Deliver.{stepNo, verdictOf, sameTransaction, takesNak, nakOf, asked, byVerdict, heard, byBody, byFrame, deliverSpec}
+use Rattle.rules.specs.Step.{dueOf, afterOf, eventsOf, changed, refusedStep, bytesDue, made, stepSpec, stepBytes}
+use Rattle.rules.specs.Cancel.{canCancel, mayCancel, userCancelled, cancelSpec}
+use Rattle.rules.specs.Exactly.{stepRules, StepExactly, CancelExactly, CancelMarks, OwesExactly, NoEvents, RefusalChangesNothing}
+use Rattle.rules.specs.declared.EntityId.{EntityId}
+use Rattle.rules.specs.declared.TransactionSeqNum.{TransactionSeqNum}
+use Rattle.rules.specs.declared.SegmentRequest.{SegmentRequest}
+use Rattle.rules.specs.declared.Frame.{Frame}
+use Rattle.rules.specs.declared.Framed.{Framed}
+use Rattle.rules.specs.declared.Framed.the-variants.{Malformed as NoFrame, Whole}
+use Rattle.rules.specs.declared.Body.{Body}
+use Rattle.rules.specs.declared.Body.the-variants.{Malformed as NoBody, CantProcess, Means}
+use Rattle.rules.specs.declared.Meaning.{Meaning}
+use Rattle.rules.specs.declared.Verdict.{Verdict}
+use Rattle.rules.specs.declared.Verdict.the-variants.{Enqueue, Move, Refuse, NoEffect}
+use Rattle.rules.specs.declared.State.{State}
+use Rattle.rules.specs.declared.TransactionStep.{TransactionStep}
+use Rattle.rules.specs.declared.TransactionStep.the-variants.{Idle, SendingMetadata, SendingFileData, SendingEof, WaitingForEofAck, WaitingForFinished, Closing}
+use Rattle.rules.specs.declared.Refusal.the-variants.{FileChanged, OutTooSmall}
+use Rattle.rules.specs.declared.Answer.{Answer}
+use Rattle.rules.specs.declared.Answer.the-variants.{Accepted, Refused}
+use Rattle.rules.specs.declared.Done.{Done}
+use Rattle.rules.specs.declared.Stepped.{Stepped}
+use Rattle.rules.specs.declared.Cancelled.{Cancelled}
+use Rattle.rules.proofs.Tells.{Tells, Fails, tests, tells-ltb, fails-map, fails-first, fails-yes, tells-iff, fails-iff, tells-step, tells-idle}
+use Rattle.rules.proofs.Order.{hits, passes, exactly}
+
+-- ---- step
+
+tells-changed : (s : State) (n : ℕ) → Tells (changed s n) ((¬ (s .step ≡ Idle)) × (¬ (n ≡ s .fixed .size)))
+unfolding changed
+tells-changed s n = search (tests, tells-idle)
+
+pub step-exactly : StepExactly
+unfolding stepSpec made
+step-exactly s file expired room =
+    exactly (stepRules s file expired room) _ refl
+    (hits (λ (r : Stepped). answerNo (r .answer)) (changed s (length file)) _ _ 30 _ _ (tells-changed s (length file)) refl
+    (λ e. hits (λ (r : Stepped). answerNo (r .answer)) (ltb room (length (bytesDue s file expired))) _ _ 31 _ _ (tells-ltb room (length (bytesDue s file expired))) refl (λ f. passes)))
+
+-- ---- cancel
+
+can-no : (k : TransactionStep) → canCancel k ≡ pick (eqb (stepNo k) 0) false (pick (eqb (stepNo k) 6) false true)
+can-no Idle = refl
+can-no SendingMetadata = refl
+can-no SendingFileData = refl
+can-no SendingEof = refl
+can-no WaitingForEofAck = refl
+can-no WaitingForFinished = refl
+can-no Closing = refl
+
+fails-can : (k : TransactionStep) → Fails (canCancel k) ((k ≡ Idle) ⊎ (k ≡ Closing))
+fails-can k = rw (can-no k) (fails-first (tells-step k Idle) (fails-yes (tells-step k Closing)))
+
+fails-may : (s : State) (source : EntityId) (number : TransactionSeqNum)
+    → Fails (mayCancel s source number)
+    (((s .step ≡ Idle) ⊎ (s .step ≡ Closing))
+    ⊎ (s .marks .cancelled ≡ true)
+    ⊎ (¬ (source .1 ≡ s .fixed .head .source .1))
+    ⊎ (¬ (number .1 ≡ s .fixed .head .number .1)))
+unfolding mayCancel
+fails-may s source number = search (tests, fails-can) depth 8
+
+answers : (b : Bool) (s t : State) → pick {A = Cancelled} b (record { yes = true; state = s }) (record { yes = false; state = t }) .yes ≡ b
+answers true s t = refl
+answers false s t = refl
+
+pub cancel-exactly : CancelExactly
+unfolding cancelSpec
+cancel-exactly s source number =
+    rw (answers (mayCancel s source number) (userCancelled s) s)
+    (fails-iff (fails-map (⊎-elim (⊎-elim inl (λ x. inr (inl x))) (λ x. inr (inr x))) (⊎-elim (λ x. inl (inl x)) (⊎-elim (λ x. inl (inr x)) inr))
+    (fails-may s source number)))
+
+cancelled : (b : Bool) (s t : State)
+    → pick {A = Cancelled} b (record { yes = true; state = t }) (record { yes = false; state = s }) .yes ≡ true
+    → pick {A = Cancelled} b (record { yes = true; state = t }) (record { yes = false; state = s }) .state ≡ t
+cancelled true s t e = refl
+cancelled false s t e = absurd (false≢true e)
+
+pub cancel-marks : CancelMarks
+unfolding cancelSpec
+cancel-marks s source number = cancelled (mayCancel s source number) s (userCancelled s)
+
+-- ---- requests that owe
+
+pub owes-exactly : OwesExactly
+unfolding owes isMetadata
+owes-exactly r = tells-iff (search tests)
+
+-- ---- a refusal changes nothing
+
+abbrev Keeps : State → Done → Type 0
+Keeps s d = ¬ (answerNo (d .answer) ≡ 0) → d .state ≡ s
+
+put-keeps : (s t : State) (a : Answer) → Keeps s (byAnswer s t a)
+put-keeps s t Accepted n = absurd (n refl)
+put-keeps s t (Refused r) n = refl
+
+nak-keeps : (s : State) (rs : List SegmentRequest) → Keeps s (nakOf s rs)
+unfolding nakOf
+nak-keeps s rs =
+    cases (Keeps s) (takesNak s) _ _
+    (λ _. cases (Keeps s) (anyInvalid (s .file .progress) rs) _ _ (λ _ _. refl)
+    (λ _. cases (Keeps s) (ltb (free (s .queue)) (owing rs)) _ _ (λ _ _. refl) (λ _ n. absurd (n refl))))
+    (λ _ _. refl)
+
+verdict-keeps : (s : State) (bytes : List ℕ) (f : Frame) (m : Meaning) (v : Verdict) → Keeps s (byVerdict s bytes f m v)
+verdict-keeps s bytes f m Enqueue = nak-keeps s (asked bytes f m)
+verdict-keeps s bytes f m Move = λ n. absurd (n refl)
+verdict-keeps s bytes f m Refuse = λ n. refl
+verdict-keeps s bytes f m NoEffect = λ n. refl
+
+heard-keeps : (s : State) (bytes : List ℕ) (f : Frame) (m : Meaning) → Keeps s (heard s bytes f m)
+unfolding heard
+heard-keeps s bytes f m =
+    let on = verdict-keeps s bytes f m (verdictOf (s .step) m) in
+    cases (Keeps s) (isIdle (s .step)) _ _ (λ _. on) (λ _. cases (Keeps s) (sameTransaction (s .fixed .head) (f .head)) _ _ (λ _. on) (λ _ _. refl))
+
+body-keeps : (s : State) (bytes : List ℕ) (f : Frame) (b : Body) → Keeps s (byBody s bytes f b)
+body-keeps s bytes f NoBody = λ n. refl
+body-keeps s bytes f CantProcess = λ n. refl
+body-keeps s bytes f (Means m) = heard-keeps s bytes f m
+
+frame-keeps : (s : State) (bytes : List ℕ) (f : Framed) → Keeps s (byFrame s bytes f)
+frame-keeps s bytes NoFrame = λ n. refl
+frame-keeps s bytes (Whole f) = body-keeps s bytes f (bodyOf f (part bytes (f .start) (f .end - f .start)))
+
+-- what a step's answer and buffer say together
+abbrev StepKeeps : State → List ℕ → Stepped → List ℕ → Type 0
+StepKeeps s out r after = ¬ (answerNo (r .answer) ≡ 0) → (r .state ≡ s) × (r .length ≡ 0) × NoEvents (r .events) × (after ≡ out)
+
+step-keeps : (s : State) (file : List ℕ) (expired : Bool) (out : List ℕ)
+    → StepKeeps s out (stepSpec s file expired (length out)) (stepBytes s file expired out)
+unfolding stepSpec made stepBytes inFront
+step-keeps s file expired out = go (changed s (length file)) (ltb (length out) (length (bytesDue s file expired)))
+  where
+    go : (b c : Bool)
+        → StepKeeps s out
+        (pick b (refusedStep s FileChanged)
+        (pick c (refusedStep s OutTooSmall)
+        (record {
+          answer = Accepted;
+          length = length (bytesDue s file expired);
+          events = eventsOf s (dueOf s expired);
+          state = afterOf s file (dueOf s expired);
+        })))
+        (pick b out (pick c out (bytesDue s file expired ++ drop (length (bytesDue s file expired)) out)))
+    go true c n = (refl, refl, (refl, refl, refl, refl, refl), refl)
+    go false true n = (refl, refl, (refl, refl, refl, refl, refl), refl)
+    go false false n = absurd (n refl)
+
+cancel-keeps : (b : Bool) (s t : State) → pick {A = Cancelled} b (record { yes = true; state = t }) (record { yes = false; state = s }) .yes ≡ false
+    → pick {A = Cancelled} b (record { yes = true; state = t }) (record { yes = false; state = s }) .state ≡ s
+cancel-keeps true s t e = absurd (true≢false e)
+cancel-keeps false s t e = refl
+
+pub refusal-changes-nothing : RefusalChangesNothing
+unfolding putSpec deliverSpec cancelSpec
+refusal-changes-nothing =
+    record {
+      put = λ s c q source destination S. put-keeps s (putState s c q source destination S) (putAnswer s c q source destination S);
+      deliver = λ s bytes. frame-keeps s bytes (framedIn bytes);
+      step = step-keeps;
+      cancel = λ s source number. cancel-keeps (mayCancel s source number) s (userCancelled s);
+    }

@@ -1,0 +1,337 @@
+-- Every call keeps the state good: for each way through a call, the facts that its tests give.
+-- Assumes nothing.
+use mathlib.Core.Path.{_≡_, refl, sym, ap, subst, _∙_}
+use mathlib.Core.Logic.{_⊎_, inl, inr}
+use mathlib.Core.Bool.{Bool, true, false, true≢false, false≢true}
+use mathlib.Core.List.{List}
+use Prim.Native.Nat.{ℕ, _+_, _-_, _^_, _≤_, _<_}
+use native.Mathlib.Omega.{arith}
+use borrow.Author.Tests.{eqb-true, eqb-false, leb-false, ltb-true}
+use lib.Dec.{eqb, leb, ltb}
+use lib.ListN.{length, take}
+use Rattle.basis.specs.Pick.{pick}
+use Rattle.basis.specs.Bytes.{Bytes}
+use Rattle.basis.proofs.Pick.{cases}
+use Rattle.rules.specs.States.{toStep, withQueue, withMarks, counted, emptyQueue, idle}
+use Rattle.rules.specs.Queues.{served}
+use Rattle.rules.specs.Step.{actionFor, faultDue, ackExpired, checkExpired, dueAt, eofOwed, dueOf, eofFor, cancelEof, nextLength, awaiting, afterCancelEof, afterMetadata, onward, afterData, afterEof, faultMarked, afterOf, changed, bytesDue, made, stepSpec}
+use Rattle.rules.specs.Put.{putAnswer, putState, byAnswer, putSpec}
+use Rattle.rules.specs.Deliver.{stepNo}
+use Rattle.rules.specs.Cancel.{canCancel, mayCancel, userCancelled, cancelSpec, resetSpec, newSpec}
+use Rattle.rules.specs.Good.{GoodQueue, GoodMarks, Under, Whole, At, Good, GoodKept, new, put, deliver, step, cancel, reset, AlwaysGood, AnomalyNeverMoves}
+use Rattle.rules.specs.declared.EntityId.{EntityId}
+use Rattle.rules.specs.declared.TransactionSeqNum.{TransactionSeqNum}
+use Rattle.rules.specs.declared.FileParams.{FileParams}
+use Rattle.rules.specs.declared.Queue.{Queue}
+use Rattle.rules.specs.declared.State.{State}
+use Rattle.rules.specs.declared.TransactionStep.{TransactionStep}
+use Rattle.rules.specs.declared.TransactionStep.the-variants.{Idle, SendingMetadata, SendingFileData, SendingEof, WaitingForEofAck, WaitingForFinished, Closing}
+use Rattle.rules.specs.declared.Due.{Due}
+use Rattle.rules.specs.declared.Due.the-variants.{CancelEof, Repair, EofAgain, FaultCancel, FaultIgnore, FaultAbandon, Nothing}
+use Rattle.rules.specs.declared.Answer.{Answer}
+use Rattle.rules.specs.declared.Answer.the-variants.{Accepted, Refused}
+use Rattle.rules.specs.declared.Stepped.{Stepped}
+use Rattle.rules.specs.declared.Cancelled.{Cancelled}
+use Rattle.rules.proofs.Tells.{both}
+use Rattle.rules.proofs.Sums.{sum-lt}
+use Rattle.rules.proofs.GoodQueue.{good-empty, good-on, served-good}
+use Rattle.rules.proofs.GoodMarks.{good-noMarks, good-counted, good-settled, good-marked}
+use Rattle.rules.proofs.GoodPut.{put-good}
+use Rattle.rules.proofs.GoodDeliver.{bytes-take, deliver-good}
+
+-- ---- Idle
+
+good-idle : (n : TransactionSeqNum) → Good (idle n)
+unfolding idle
+good-idle n =
+    record {
+      queue = good-empty 0;
+      progress = omega arith;
+      sum = omega arith;
+      count = omega arith;
+      marks = good-noMarks;
+      silent = λ _. refl;
+      here = refl;
+    }
+
+-- a state whose mark is set, or that has something pending, isn't Idle
+idle-mark : (s : State) → s ≡ idle (s .number) → s .marks .cancelled ≡ false
+unfolding idle
+idle-mark s e = ap (λ (t : State). t .marks .cancelled) e
+
+under : (k : TransactionStep) (s : State) → At k s → s .marks .cancelled ≡ true → Under s
+under Idle s h c = absurd (true≢false (sym c ∙ idle-mark s h))
+under SendingMetadata s h c = h .0
+under SendingFileData s h c = h .0
+under SendingEof s h c = h .0
+under WaitingForEofAck s h c = h .0
+under WaitingForFinished s h c = h .0
+under Closing s h c = h .0
+
+-- what is neither cancelled nor sent
+unowed : (o c : Bool) → o ≡ c → pick c o false ≡ false → c ≡ false
+unowed o true e f = absurd (true≢false (sym e ∙ f))
+unowed o false e f = refl
+
+-- ---- a step
+
+-- an EOF that waits for its ACK
+good-awaiting : (s : State) (file : List ℕ) (c n : ℕ) → GoodQueue (s .file .progress) (s .queue) → s .file .progress ≤ s .fixed .size → GoodMarks (s .marks)
+    → ((s .fixed .head .unacknowledged ≡ true) ⊎ (s .marks .cancelled ≡ true) → s .queue ≡ emptyQueue)
+    → Bytes file → Under s → s .fixed .head .unacknowledged ≡ false → Whole s → n ≡ s .file .progress → c ≡ s .marks .condition
+    → Good (awaiting s (eofFor s file c n))
+unfolding eofFor
+good-awaiting s file c n q p m i h u a w r e =
+    record {
+      queue = q;
+      progress = p;
+      sum = sum-lt (s .fixed .checksum) (take n file) (bytes-take n file h);
+      count = omega arith;
+      marks = good-counted _ 0 (good-settled (s .marks) m);
+      silent = i;
+      here = (u, a, w, λ _. (r, e));
+    }
+
+-- the count is in no fact of a step
+same-at : (s : State) (k : TransactionStep) (n : ℕ) → ¬ (k ≡ Idle) → At k s → At k (withMarks s (counted (s .marks) n))
+same-at s Idle n i p = absurd (i refl)
+same-at s SendingMetadata n i p = p
+same-at s SendingFileData n i p = p
+same-at s SendingEof n i p = p
+same-at s WaitingForEofAck n i p = p
+same-at s WaitingForFinished n i p = p
+same-at s Closing n i p = p
+
+other-step : {j : TransactionStep} (k : TransactionStep) → j ≡ k → ¬ (stepNo k ≡ 0) → ¬ (j ≡ Idle)
+other-step k e n i = n (ap stepNo (sym e ∙ i))
+
+module _ (s : State) (file : List ℕ) (g : Good s) (h : Bytes file) where
+  eof-sum : (c n : ℕ) → eofFor s file c n .sum < 2 ^ 32
+  unfolding eofFor
+  eof-sum c n = sum-lt (s .fixed .checksum) (take n file) (bytes-take n file h)
+
+  -- 1
+  cancel-eof : eofOwed s ≡ true → Good (afterCancelEof s (cancelEof s file (s .marks .condition)))
+  unfolding eofOwed afterCancelEof
+  cancel-eof o =
+      let c = both (s .marks .cancelled) (s .marks .owed) o .0 in
+      cases Good (s .fixed .head .unacknowledged) _ _ (λ _. good-idle (s .number))
+      (λ a. good-awaiting s file (s .marks .condition) (s .file .progress) (g .queue) (g .progress) (g .marks) (g .silent) h (under (s .step) s (g .here) c) a (λ e. absurd (true≢false (sym c ∙ e))) refl refl)
+
+  -- 2
+  pending-at : (k : TransactionStep) → At k s → 0 < s .queue .count → At k (withQueue s (served (s .fixed .segment) (s .queue)))
+  unfolding idle
+  pending-at Idle p n = absurd (let e = ap (λ (t : State). t .queue .count) p in omega arith)
+  pending-at SendingMetadata p n = absurd (let e = ap (λ (q : Queue). q .count) (p .3) in omega arith)
+  pending-at SendingFileData p n = p
+  pending-at SendingEof p n = p
+  pending-at WaitingForEofAck p n = p
+  pending-at WaitingForFinished p n = p
+  pending-at Closing p n = absurd (let e = ap (λ (q : Queue). q .count) (p .2) in omega arith)
+
+  repair : 0 < s .queue .count → Good (withQueue s (served (s .fixed .segment) (s .queue)))
+  repair n =
+      record {
+        queue = served-good (s .file .progress) (s .fixed .segment) (s .queue) n (g .queue);
+        progress = g .progress;
+        sum = g .sum;
+        count = g .count;
+        marks = g .marks;
+        silent = λ e. absurd (let z = ap (λ (q : Queue). q .count) (g .silent e) in omega arith);
+        here = pending-at (s .step) (g .here) n;
+      }
+
+  -- another step, all else as it was
+  moved : (k : TransactionStep) → At k (toStep s k) → Good (toStep s k)
+  moved k p =
+      record { queue = g .queue; progress = g .progress; sum = g .sum; count = g .count; marks = g .marks; silent = g .silent; here = p }
+
+  -- 3
+  metadata : At SendingMetadata s → Good (afterMetadata s)
+  unfolding afterMetadata
+  metadata p =
+      let z : s .file .progress ≡ 0 = ap (λ (f : FileParams). f .progress) (p .2) in
+      cases Good (eqb (s .fixed .size) 0) _ _
+      (λ e. moved SendingEof (p .0, p .1, let y = eqb-true (s .fixed .size) 0 e in omega arith))
+      (λ e. moved SendingFileData (p .0, p .1, let y = eqb-false (s .fixed .size) 0 e in omega arith))
+
+  -- 4
+  data-sent : s .step ≡ SendingFileData → At SendingFileData s → Good (afterData s)
+  unfolding afterData
+  data-sent k p =
+      let r = s .file .progress + nextLength s in
+      let l : r ≤ s .fixed .size = let y = p .2 in omega arith in
+      let q = good-on (s .file .progress) r (s .queue) (omega arith) (g .queue) in
+      cases Good (eqb r (s .fixed .size)) _ _
+      (λ e.
+      record {
+        queue = q;
+        progress = l;
+        sum = g .sum;
+        count = g .count;
+        marks = g .marks;
+        silent = g .silent;
+        here = (p .0, p .1, eqb-true r (s .fixed .size) e);
+      })
+      (λ e.
+      let n = eqb-false r (s .fixed .size) e in
+      record {
+        queue = q;
+        progress = l;
+        sum = g .sum;
+        count = g .count;
+        marks = g .marks;
+        silent = g .silent;
+        here = subst (λ (j : TransactionStep). At j (onward s r)) (sym k) (p .0, p .1, omega arith);
+      })
+
+  -- 5
+  eof-sent : At SendingEof s → eofOwed s ≡ false → Good (afterEof s (eofFor s file 0 (s .fixed .size)))
+  unfolding afterEof eofOwed
+  eof-sent p o =
+      let live : s .marks .cancelled ≡ false = unowed (s .marks .owed) (s .marks .cancelled) (p .1) o in
+      cases Good (s .fixed .head .unacknowledged) _ _
+      (λ a.
+      cases Good (s .fixed .closure) _ _
+      (λ c.
+      record {
+        queue = g .queue;
+        progress = g .progress;
+        sum = eof-sum 0 (s .fixed .size);
+        count = g .count;
+        marks = g .marks;
+        silent = g .silent;
+        here = (p .0, λ _. c, λ _. p .2);
+      })
+      (λ c. good-idle (s .number)))
+      (λ a. good-awaiting s file 0 (s .fixed .size) (g .queue) (g .progress) (g .marks) (g .silent) h (p .0) a (λ _. p .2) (sym (p .2)) (sym (g .marks .noError live)))
+
+  -- 6 and 7
+  recounted : (n : ℕ) → n ≤ s .fixed .limit - 1 → ¬ (s .step ≡ Idle) → Good (withMarks s (counted (s .marks) n))
+  recounted n l i =
+      record {
+        queue = g .queue;
+        progress = g .progress;
+        sum = g .sum;
+        count = l;
+        marks = good-counted (s .marks) n (g .marks);
+        silent = g .silent;
+        here = same-at s (s .step) n i (g .here);
+      }
+
+  fault-good : (c : ℕ) → Under s → ¬ (s .step ≡ Idle) → (s .fixed .head .unacknowledged ≡ false → (c ≡ 1) ⊎ (c ≡ 15)) → Good (afterOf s file (faultDue s c))
+  unfolding faultDue afterCancelEof eofFor
+  fault-good c u i k =
+      let P : Due → Type 0 = λ d. Good (afterOf s file d) in
+      cases P (eqb (actionFor s c) 1) (FaultCancel c) _
+      (λ _.
+      cases Good (s .fixed .head .unacknowledged) _ _ (λ _. good-idle (s .number))
+      (λ a.
+      good-awaiting (faultMarked s c) file c (s .file .progress) (good-empty (s .file .progress)) (g .progress) (good-marked (s .marks) c true (k a) (g .marks))
+      (λ _. refl) h u a (λ e. absurd (true≢false e)) refl refl))
+      (λ _. cases P (eqb (actionFor s c) 3) (FaultIgnore c) (FaultAbandon c) (λ _. recounted 0 (omega arith) i) (λ _. good-idle (s .number)))
+
+  -- an expiry
+  ack-good : (expired : Bool) → s .step ≡ WaitingForEofAck → At WaitingForEofAck s → Good (afterOf s file (ackExpired s expired))
+  unfolding ackExpired
+  ack-good expired k p =
+      let P : Due → Type 0 = λ d. Good (afterOf s file d) in
+      let i = other-step WaitingForEofAck k (omega arith) in
+      cases P expired _ Nothing
+      (λ _.
+      cases P (leb (s .fixed .limit) (s .marks .count + 1)) _ EofAgain (λ _. fault-good 1 (p .0) i (λ _. inl refl))
+      (λ e. recounted (s .marks .count + 1) (let l = leb-false (s .fixed .limit) (s .marks .count + 1) e in omega arith) i))
+      (λ _. g)
+
+  check-good : (expired : Bool) → s .step ≡ WaitingForFinished → At WaitingForFinished s → Good (afterOf s file (checkExpired s expired))
+  unfolding checkExpired
+  check-good expired k p =
+      let P : Due → Type 0 = λ d. Good (afterOf s file d) in
+      let i = other-step WaitingForFinished k (omega arith) in
+      cases P (s .fixed .head .unacknowledged) _ Nothing
+      (λ a. cases P expired _ Nothing (λ _. fault-good 10 (p .0) i (λ b. absurd (true≢false (sym a ∙ b)))) (λ _. g))
+      (λ _. g)
+
+  -- 3 to 9
+  at-good : (expired : Bool) → eofOwed s ≡ false → (k : TransactionStep) → s .step ≡ k → At k s → Good (afterOf s file (dueAt k s expired))
+  at-good expired o Idle e p = g
+  at-good expired o SendingMetadata e p = metadata p
+  at-good expired o SendingFileData e p = data-sent e p
+  at-good expired o SendingEof e p = eof-sent p o
+  at-good expired o WaitingForEofAck e p = ack-good expired e p
+  at-good expired o WaitingForFinished e p = check-good expired e p
+  at-good expired o Closing e p = good-idle (s .number)
+
+  due-good : (expired : Bool) → Good (afterOf s file (dueOf s expired))
+  unfolding dueOf
+  due-good expired =
+      let P : Due → Type 0 = λ d. Good (afterOf s file d) in
+      cases P (eofOwed s) CancelEof _ cancel-eof
+      (λ o. cases P (ltb 0 (s .queue .count)) Repair _ (λ e. repair (ltb-true 0 (s .queue .count) e)) (λ _. at-good expired o (s .step) refl (g .here)))
+
+  step-good : (expired : Bool) (room : ℕ) → Good (stepSpec s file expired room .state)
+  unfolding stepSpec made
+  step-good expired room =
+      let P : Stepped → Type 0 = λ r. Good (r .state) in
+      cases P (changed s (length file)) _ _ (λ _. g)
+      (λ _. cases P (ltb room (length (bytesDue s file expired))) _ _ (λ _. g) (λ _. due-good expired))
+
+-- ---- cancel
+
+cancel-at : (s : State) (k : TransactionStep) → canCancel k ≡ true → At k s → At k (userCancelled s)
+cancel-at s Idle c p = absurd (false≢true c)
+cancel-at s SendingMetadata c p = (p .0, refl, p .2, refl)
+cancel-at s SendingFileData c p = (p .0, refl, p .2)
+cancel-at s SendingEof c p = (p .0, refl, p .2)
+cancel-at s WaitingForEofAck c p = (p .0, p .1, λ e. absurd (true≢false e), λ e. absurd (true≢false e))
+cancel-at s WaitingForFinished c p = (p .0, p .1, λ e. absurd (true≢false e))
+cancel-at s Closing c p = absurd (false≢true c)
+
+cancel-good : (s : State) (source : EntityId) (number : TransactionSeqNum) → Good s → Good (cancelSpec s source number .state)
+unfolding cancelSpec mayCancel
+cancel-good s source number g =
+    let same = pick (eqb (source .1) (s .fixed .head .source .1)) (eqb (number .1) (s .fixed .head .number .1)) false in
+    cases (λ (r : Cancelled). Good (r .state)) (pick (canCancel (s .step)) (pick (s .marks .cancelled) false same) false) _ _
+    (λ e.
+    record {
+      queue = good-empty (s .file .progress);
+      progress = g .progress;
+      sum = g .sum;
+      count = g .count;
+      marks = good-marked (s .marks) 15 true (inr refl) (g .marks);
+      silent = λ _. refl;
+      here = cancel-at s (s .step) (both (canCancel (s .step)) (pick (s .marks .cancelled) false same) e .0) (g .here);
+    })
+    (λ _. g)
+
+-- ---- put
+
+kept-or-good : (s t : State) (a : Answer) → Good s → (a ≡ Accepted → Good t) → Good (byAnswer s t a .state)
+kept-or-good s t Accepted g h = h refl
+kept-or-good s t (Refused r) g h = g
+
+-- ---- every call
+
+pub good-kept : GoodKept
+unfolding newSpec resetSpec putSpec
+good-kept =
+    record {
+      new = λ n. good-idle n;
+      put = λ s c q source destination S h g.
+          kept-or-good s (putState s c q source destination S) (putAnswer s c q source destination S) g (put-good s c q source destination S h);
+      deliver = λ s bytes h g. deliver-good s g bytes h;
+      step = λ s file expired room h g. step-good s file g h expired room;
+      cancel = λ s source number g. cancel-good s source number g;
+      reset = λ s g. good-idle (s .number);
+    }
+
+pub always-good : AlwaysGood
+always-good _ (new n) = good-kept .new n
+always-good _ (put {s = s} r c q source destination S h) = good-kept .put s c q source destination S h (always-good s r)
+always-good _ (deliver {s = s} r bytes h) = good-kept .deliver s bytes h (always-good s r)
+always-good _ (step {s = s} r file expired room h) = good-kept .step s file expired room h (always-good s r)
+always-good _ (cancel {s = s} r source number) = good-kept .cancel s source number (always-good s r)
+always-good _ (reset {s = s} r) = good-kept .reset s (always-good s r)
+
+pub anomaly-never-moves : AnomalyNeverMoves
+anomaly-never-moves s r = always-good s r .marks .anomalies

@@ -1,0 +1,107 @@
+-- From a cascade of tests to a table of refusals: what gives the first number whose condition holds gives each number exactly when.
+-- Assumes nothing.
+use mathlib.Core.Path.{_≡_, refl, sym, subst, _∙_}
+use mathlib.Core.Logic.{_⊎_, inl, inr, ⊎-elim}
+use mathlib.Core.Bool.{Bool, true, false}
+use mathlib.Core.List.{List, [], _∷_}
+use Prim.Native.Nat.{ℕ}
+use borrow.Author.Tests.{eqb-false}
+use lib.Dec.{eqb}
+use Rattle.basis.specs.Pick.{pick}
+use Rattle.rules.specs.Exactly.{Rule, _when_, After, Exactly}
+use Rattle.rules.proofs.Tells.{Tells, Fails, both, but}
+
+-- the number of the first line whose condition holds, 0 if none does
+abbrev FirstIs : List Rule → ℕ → Type 0
+FirstIs [] n = n ≡ 0
+FirstIs ((k when P) ∷ rs) n = (P × (n ≡ k)) ⊎ ((¬ P) × FirstIs rs n)
+
+pub record First (rs : List Rule) (n : ℕ) : Type 0 where
+  is : FirstIs rs n
+
+-- no line has the number k, and it isn't 0
+abbrev Free : ℕ → List Rule → Type 0
+Free k [] = ¬ (k ≡ 0)
+Free k ((j when P) ∷ rs) = (¬ (k ≡ j)) × Free k rs
+
+-- the same as a test, and that all numbers differ
+abbrev free : ℕ → List Rule → Bool
+free k [] = pick (eqb k 0) false true
+free k ((j when P) ∷ rs) = pick (eqb k j) false (free k rs)
+
+abbrev pub distinct : List Rule → Bool
+distinct [] = true
+distinct ((k when P) ∷ rs) = pick (free k rs) (distinct rs) false
+
+-- ---- a cascade
+
+-- the condition's test holds
+pub hits : {A : Type 0} (f : A → ℕ) (b : Bool) (x y : A) (k : ℕ) (P : Type 0) (rs : List Rule)
+    → Tells b P → f x ≡ k → (b ≡ false → First rs (f y)) → First ((k when P) ∷ rs) (f (pick b x y))
+hits f true x y k P rs t e r = record { is = inl (t .yes refl, e) }
+hits f false x y k P rs t e r = record { is = inr (t .no refl, r refl .is) }
+
+-- the test of its contrary fails
+pub fails : {A : Type 0} (f : A → ℕ) (b : Bool) (x y : A) (k : ℕ) (P : Type 0) (rs : List Rule)
+    → Fails b P → f y ≡ k → (b ≡ true → First rs (f x)) → First ((k when P) ∷ rs) (f (pick b x y))
+fails f true x y k P rs t e r = record { is = inr (t .no refl, r refl .is) }
+fails f false x y k P rs t e r = record { is = inl (t .yes refl, e) }
+
+-- none holds
+pub passes : First [] 0
+passes = record { is = refl }
+
+-- a line's condition holds, or it doesn't
+pub here : (k : ℕ) (P : Type 0) (rs : List Rule) → P → First ((k when P) ∷ rs) k
+here k P rs p = record { is = inl (p, refl) }
+
+pub there : (k : ℕ) (P : Type 0) (rs : List Rule) (n : ℕ) → ¬ P → First rs n → First ((k when P) ∷ rs) n
+there k P rs n p r = record { is = inr (p, r .is) }
+
+-- one of two conditions with the same number
+pub either : {A : Type 0} (f : A → ℕ) (b : Bool) (x y : A) (k : ℕ) (P Q : Type 0) (rs : List Rule)
+    → Tells b P → f x ≡ k → First ((k when Q) ∷ rs) (f y) → First ((k when (P ⊎ Q)) ∷ rs) (f (pick b x y))
+either f true x y k P Q rs t e r = record { is = inl (inl (t .yes refl), e) }
+either f false x y k P Q rs t e r = record { is = go (r .is) }
+  where
+    go : FirstIs ((k when Q) ∷ rs) (f y) → FirstIs ((k when (P ⊎ Q)) ∷ rs) (f y)
+    go (inl q) = inl (inr (q .0), q .1)
+    go (inr q) = inr (⊎-elim (t .no refl) (q .0), q .1)
+
+-- conditions said in another way
+pub anew : (k : ℕ) (P Q : Type 0) (rs ts : List Rule) (n : ℕ) → (P → Q) → (Q → P) → (First rs n → First ts n) → First ((k when P) ∷ rs) n → First ((k when Q) ∷ ts) n
+anew k P Q rs ts n p q r f = record { is = go (f .is) }
+  where
+    go : FirstIs ((k when P) ∷ rs) n → FirstIs ((k when Q) ∷ ts) n
+    go (inl h) = inl (p (h .0), h .1)
+    go (inr h) = inr (λ x. h .0 (q x), r (record { is = h .1 }) .is)
+
+-- ---- from the first to exactly
+
+free-is : (k : ℕ) (rs : List Rule) → free k rs ≡ true → Free k rs
+free-is k [] e = eqb-false k 0 (but (eqb k 0) true e .0)
+free-is k ((j when P) ∷ rs) e =
+    let d = but (eqb k j) (free k rs) e in
+    (eqb-false k j (d .0), free-is k rs (d .1))
+
+another : (k : ℕ) (rs : List Rule) (n : ℕ) → Free k rs → FirstIs rs n → ¬ (n ≡ k)
+another k [] n f e h = f (sym h ∙ e)
+another k ((j when P) ∷ rs) n f (inl p) h = f .0 (sym h ∙ p .1)
+another k ((j when P) ∷ rs) n f (inr p) h = another k rs n (f .1) (p .1) h
+
+-- a line before has given the number
+past : (none : Type 0) → ¬ none → (rs : List Rule) (n : ℕ) → Free n rs → After none rs n
+past none h [] n f = (λ e. absurd (f e), λ p. absurd (h p))
+past none h ((k when P) ∷ rs) n f = ((λ e. absurd (f .0 e), λ p. absurd (h (p .1))), past ((¬ P) × none) (λ p. h (p .1)) rs n (f .1))
+
+after : (none : Type 0) → none → (rs : List Rule) (n : ℕ) → distinct rs ≡ true → FirstIs rs n → After none rs n
+after none h [] n d e = (λ _. h, λ _. e)
+after none h ((k when P) ∷ rs) n d (inl p) =
+    let f = free-is k rs (both (free k rs) (distinct rs) d .0) in
+    ((λ _. (p .0, h), λ _. p .1), past ((¬ P) × none) (λ q. q .0 (p .0)) rs n (subst (λ (m : ℕ). Free m rs) (sym (p .1)) f))
+after none h ((k when P) ∷ rs) n d (inr p) =
+    let f = both (free k rs) (distinct rs) d in
+    ((λ e. absurd (another k rs n (free-is k rs (f .0)) (p .1) e), λ q. absurd (p .0 (q .0))), after ((¬ P) × none) (p .0, h) rs n (f .1) (p .1))
+
+pub exactly : (rs : List Rule) (n : ℕ) → distinct rs ≡ true → First rs n → Exactly rs n
+exactly rs n d f = after (Unit {0}) tt rs n d (f .is)
