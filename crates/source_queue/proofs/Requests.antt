@@ -11,7 +11,6 @@ use borrow.Author.Tests.{leb-true, leb-false}
 use lib.Dec.{leb}
 use lib.ListN.{length}
 use Rattle.basis.specs.Pick.{pick, flag}
-use Rattle.basis.specs.Bytes.{numAt}
 use Rattle.basis.proofs.Bytes.{num-past}
 use Rattle.rules.specs.Numbers.{F}
 use Rattle.rules.specs.States.{blank}
@@ -74,6 +73,7 @@ module _ (large : Bool) (s : List ℕ) where
     where
       rest : ℕ
       rest = owing (requestsFrom (k - 1) large s (min (i + F large + F large) (length s)))
+
       go : (b : Bool) → m + flag b + rest ≡ m + pick b (suc rest) rest
       go true = omega arith
       go false = omega arith

@@ -4,51 +4,13 @@ use crate::queue::invalid;
 use crate::queue::owes;
 use crate::queue::push_owed;
 use basis::bit_of;
-use basis::num_at;
+use pdu_read::nak::request_from;
 use rules::Queue;
-use rules::SegmentRequest;
 ghost use mathlib.Core.Path.{_≡_};
-ghost use Prim.Native.Nat.{_+_, _≤_, min};
-ghost use Rattle.basis.specs.Bytes.{numAt};
+ghost use Prim.Native.Nat.{_+_, min};
 ghost use Rattle.rules.specs.Numbers.{F};
 ghost use Rattle.rules.specs.Queues.{anyInvalid, owing, pushAll};
-ghost use Rattle.rules.specs.Reading.{requestsFrom, requestAt};
-
-fn size_width(large: bool) -> usize
-    ensures { λ r. ⌜ (r ≡ F large) × (r ≤ 8) ⌝ }
-{
-    if large { 8 } else { 4 }
-}
-
-// The number that stands F bytes behind a place; 0 past the end.
-fn size_behind(s: &[u8], large: bool, at: usize) -> u64
-    ensures { λ r. ⌜ r ≡ numAt (now (s .entry)) (at + F large) (F large) ⌝ }
-{
-    let f = size_width(large);
-    if s.len() <= at {
-        return 0;
-    }
-    if s.len() - at <= f {
-        return 0;
-    }
-    num_at(s, at + f, f)
-}
-
-// One request, from any place of the delivered bytes.
-pub fn request_at(s: &[u8], large: bool, at: usize) -> SegmentRequest
-    ensures { λ r. ⌜ r ≡ requestAt large (now (s .entry)) at ⌝ }
-{
-    let f = size_width(large);
-    let start = num_at(s, at, f);
-    let end = size_behind(s, large, at);
-    SegmentRequest { start, end }
-}
-
-fn pair_width(large: bool) -> usize
-    ensures { λ r. ⌜ (r ≡ F large + F large) × (r ≤ 16) ⌝ }
-{
-    if large { 16 } else { 8 }
-}
+ghost use Rattle.rules.specs.Reading.{requestsFrom};
 
 // The place of the next pair, or the end.
 fn next_pair(n: usize, large: bool, at: usize) -> usize
@@ -57,7 +19,7 @@ fn next_pair(n: usize, large: bool, at: usize) -> usize
     if n <= at {
         return n;
     }
-    let w = pair_width(large);
+    let w = 8 + 8 * (bit_of(large) as usize);
     if n - at <= w {
         return n;
     }
@@ -71,7 +33,7 @@ pub fn any_invalid(bytes: &[u8], large: bool, at: usize, n: usize, progress: u64
     let mut i = at;
     let mut k = n;
     while 0 < k {
-        let p = request_at(bytes, large, i);
+        let p = request_from(bytes, large, i);
         if invalid(progress, p) {
             return true;
         }
@@ -89,7 +51,7 @@ pub fn owing_count(bytes: &[u8], large: bool, at: usize, n: usize) -> usize
     let mut k = n;
     let mut m = 0;
     while 0 < k {
-        let p = request_at(bytes, large, i);
+        let p = request_from(bytes, large, i);
         m += bit_of(owes(p)) as usize;
         i = next_pair(bytes.len(), large, i);
         k -= 1;
@@ -105,7 +67,7 @@ pub fn push_all(q: Queue, bytes: &[u8], large: bool, at: usize, n: usize) -> Que
     let mut i = at;
     let mut k = n;
     while 0 < k {
-        let p = request_at(bytes, large, i);
+        let p = request_from(bytes, large, i);
         u = push_owed(u, p);
         i = next_pair(bytes.len(), large, i);
         k -= 1;

@@ -21,7 +21,7 @@ fn copied(name: &[u8]) -> [u8; 255]
 }
 
 // One that is too long is not copied.
-pub fn padded(name: &[u8]) -> [u8; 255]
+fn padded(name: &[u8]) -> [u8; 255]
     ensures { λ r. ⌜ r ≡ padded (now (name .entry)) ⌝ }
 {
     if name.len() > 255 {
@@ -30,7 +30,8 @@ pub fn padded(name: &[u8]) -> [u8; 255]
     copied(name)
 }
 
-pub fn padded_length(name: &[u8]) -> u8
+// Its length, or 0.
+fn padded_length(name: &[u8]) -> u8
     ensures { λ r. ⌜ r ≡ paddedLength (now (name .entry)) ⌝ }
 {
     if name.len() > 255 {
@@ -39,6 +40,7 @@ pub fn padded_length(name: &[u8]) -> u8
     name.len() as u8
 }
 
+// Both.
 pub fn names_of(source: &[u8], destination: &[u8]) -> Names
     ensures { λ r. ⌜ r ≡ namesOf (now (source .entry)) (now (destination .entry)) ⌝ }
 {
@@ -46,5 +48,10 @@ pub fn names_of(source: &[u8], destination: &[u8]) -> Names
     let b = padded(destination);
     let n = padded_length(source);
     let m = padded_length(destination);
-    Names { source: a, sourcelen: n, destination: b, destinationlen: m }
+    Names {
+        source: a,
+        sourcelen: n,
+        destination: b,
+        destinationlen: m,
+    }
 }

@@ -11,50 +11,51 @@ ghost use Rattle.rules.specs.Queues.{isMetadata, owes, invalid, free, push, pus
 // ---- one request
 
 // (0, 0) owes the metadata PDU.
-pub fn is_metadata(q: SegmentRequest) -> bool
-    ensures { λ r. ⌜ r ≡ isMetadata q ⌝ }
+pub fn is_metadata(p: SegmentRequest) -> bool
+    ensures { λ r. ⌜ r ≡ isMetadata p ⌝ }
 {
-    if q.start == 0 {
-        return q.end == 0;
+    if p.start == 0 {
+        return p.end == 0;
     }
     false
 }
 
 // start = end otherwise owes nothing.
-pub fn owes(q: SegmentRequest) -> bool
-    ensures { λ r. ⌜ r ≡ owes q ⌝ }
+pub(crate) fn owes(p: SegmentRequest) -> bool
+    ensures { λ r. ⌜ r ≡ owes p ⌝ }
 {
-    if is_metadata(q) {
+    if is_metadata(p) {
         return true;
     }
-    q.start < q.end
+    p.start < p.end
 }
 
 // What makes a NAK InvalidNakPdu.
-pub fn invalid(progress: u64, q: SegmentRequest) -> bool
-    ensures { λ r. ⌜ r ≡ invalid progress q ⌝ }
+pub(crate) fn invalid(progress: u64, p: SegmentRequest) -> bool
+    ensures { λ r. ⌜ r ≡ invalid progress p ⌝ }
 {
-    if q.end < q.start {
-        return true;
+    if p.end < p.start {
+        true
+    } else {
+        progress < p.end
     }
-    progress < q.end
 }
 
 // The bytes that a request still owes.
-fn left(q: SegmentRequest) -> u64
-    ensures { λ r. ⌜ r ≡ q .end - q .start ⌝ }
+fn left(p: SegmentRequest) -> u64
+    ensures { λ r. ⌜ r ≡ p .end - p .start ⌝ }
 {
-    if q.end < q.start {
+    if p.end < p.start {
         return 0;
     }
-    q.end - q.start
+    p.end - p.start
 }
 
 // The bytes of its next piece: L, or the last rest.
-pub fn piece(l: u64, q: SegmentRequest) -> u64
-    ensures { λ r. ⌜ r ≡ piece l q ⌝ }
+pub fn piece(l: u64, p: SegmentRequest) -> u64
+    ensures { λ r. ⌜ r ≡ piece l p ⌝ }
 {
-    let n = left(q);
+    let n = left(p);
     if l < n { l } else { n }
 }
 
@@ -70,7 +71,7 @@ pub fn free(q: Queue) -> usize
 }
 
 // One more behind; a full queue stays as it is.
-pub fn push(q: Queue, p: SegmentRequest) -> Queue
+fn push(q: Queue, p: SegmentRequest) -> Queue
     ensures { λ r. ⌜ r ≡ push q p ⌝ }
 {
     let at = q.count;
@@ -83,7 +84,7 @@ pub fn push(q: Queue, p: SegmentRequest) -> Queue
     u
 }
 
-pub fn push_owed(q: Queue, p: SegmentRequest) -> Queue
+pub(crate) fn push_owed(q: Queue, p: SegmentRequest) -> Queue
     ensures { λ r. ⌜ r ≡ pushOwed q p ⌝ }
 {
     if owes(p) {
@@ -113,13 +114,16 @@ fn shifted(a: [SegmentRequest; 64]) -> [SegmentRequest; 64]
 }
 
 // Without the oldest.
-pub fn pop(q: Queue) -> Queue
+fn pop(q: Queue) -> Queue
     ensures { λ r. ⌜ r ≡ pop q ⌝ }
 {
     let a = q.places;
     let n = q.count;
     let b = shifted(a);
-    Queue { places: b, count: if n == 0 { 0 } else { n - 1 } }
+    Queue {
+        places: b,
+        count: if n == 0 { 0 } else { n - 1 },
+    }
 }
 
 // After one PDU of the oldest: its place is free, or holds its rest.
@@ -131,6 +135,9 @@ pub fn served(l: u64, q: Queue) -> Queue
         return pop(q);
     }
     let mut u = q;
-    u.places[0] = SegmentRequest { start: p.start + l, end: p.end };
+    u.places[0] = SegmentRequest {
+        start: p.start + l,
+        end: p.end,
+    };
     u
 }

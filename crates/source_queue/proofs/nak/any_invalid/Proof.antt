@@ -7,11 +7,6 @@ use Rattle.source_queue.proofs.Requests.{any-turn, any-stop, any-end}
 use borrow.Author.Needs.{needs}
 use Rattle.source_queue.proofs.nak.any_invalid.Statement.{statement}
 use Rattle.source_queue.proofs.nak.any_invalid.Tie as tie
-use Rattle.source_queue.proofs.nak.any_invalid.Reads as reads
-use Rattle.source_queue.proofs.nak.any_invalid.Lts as lts
-use Rattle.source_queue.proofs.nak.next_pair.Reads as next-pair-reads
-use Rattle.source_queue.proofs.nak.request_at.Reads as request-at-reads
-use Rattle.source_queue.proofs.queue.invalid.Reads as invalid-reads
 
 abbrev Inv-loop : tie.InvT-loop
 Inv-loop bytes large at n progress i₀ k₀ i k = anyInvalid progress (requestsFrom k large bytes i) ≡ anyInvalid progress (requestsFrom n large bytes at)
@@ -19,48 +14,39 @@ Inv-loop bytes large at n progress i₀ k₀ i k = anyInvalid progress (requests
 abbrev μ-loop : tie.MeasureT-loop
 μ-loop bytes large at n progress i₀ k₀ i k = k
 
--- src/nak.rt:73:5
 loop-holds : tie.Need-loop-holds Inv-loop μ-loop
 loop-holds c = search needs
 
--- src/nak.rt:74:13
-request-at-requires : tie.Need-request-at-requires Inv-loop μ-loop
-request-at-requires c κs = search needs
+request-from-requires : tie.Need-request-from-requires Inv-loop μ-loop
+request-from-requires c κs = search needs
 
--- src/nak.rt:75:12
 invalid-requires : tie.Need-invalid-requires Inv-loop μ-loop
 invalid-requires c κs = search needs
 
--- src/nak.rt:76:13
 returns : tie.Need-returns Inv-loop μ-loop
 returns c = let v = c .before in
     let l = v .before .before .before in
     let a = l .before .before .args in
     any-stop (a .large) (a .bytes .now) (a .progress) (l .loop .k) (l .loop .i) (v .before .before .loop-test .taken)
-    (sym (v .invalid .ensures ∙ ap (invalid (a .progress)) (v .before .request-at .ensures)) ∙ c .if1 .taken) ∙ l .loop .inv
+    (sym (v .invalid .ensures ∙ ap (invalid (a .progress)) (v .before .request-from .ensures)) ∙ c .if1 .taken) ∙ l .loop .inv
 
--- src/nak.rt:78:9
 next-pair-requires : tie.Need-next-pair-requires Inv-loop μ-loop
 next-pair-requires c κs = search needs
 
--- src/nak.rt:79:9
 sub-k : tie.Need-sub-k Inv-loop μ-loop
 sub-k c = search needs
 
--- src/nak.rt:73:5
 loop-less : tie.Need-loop-less Inv-loop μ-loop
 loop-less c = search needs
 
--- src/nak.rt:73:5
 loop-again : tie.Need-loop-again Inv-loop μ-loop
 loop-again c = let v = c .before .before in
     let l = v .before .before .before in
     let a = l .before .before .args in
     rw (c .next-pair .ensures)
     (any-turn (a .large) (a .bytes .now) (a .progress) (l .loop .k) (l .loop .i) (v .before .before .loop-test .taken)
-    (sym (v .invalid .ensures ∙ ap (invalid (a .progress)) (v .before .request-at .ensures)) ∙ c .before .if1 .left) ∙ l .loop .inv)
+    (sym (v .invalid .ensures ∙ ap (invalid (a .progress)) (v .before .request-from .ensures)) ∙ c .before .if1 .left) ∙ l .loop .inv)
 
--- src/nak.rt:68:1
 returns-2 : tie.Need-returns-2 Inv-loop μ-loop
 returns-2 c = let l = c .before in
     let a = l .before .before .args in
@@ -73,7 +59,7 @@ any-invalid-spec =
     Inv-loop
     μ-loop
     loop-holds
-    request-at-requires
+    request-from-requires
     invalid-requires
     returns
     next-pair-requires

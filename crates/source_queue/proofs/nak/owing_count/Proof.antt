@@ -1,6 +1,6 @@
 -- What was counted, and what the rest owes, is what all of them owe.
 -- Assumes nothing.
-use mathlib.Core.Path.{_≡_, sym, ap, _∙_}
+use mathlib.Core.Path.{_≡_, sym, _∙_}
 use Prim.Native.Nat.{_+_, _≤_}
 use Rattle.rules.specs.Reading.{requestsFrom}
 use Rattle.rules.specs.Queues.{owing}
@@ -8,12 +8,6 @@ use Rattle.source_queue.proofs.Requests.{owing-turn, owing-end}
 use borrow.Author.Needs.{needs}
 use Rattle.source_queue.proofs.nak.owing_count.Statement.{statement}
 use Rattle.source_queue.proofs.nak.owing_count.Tie as tie
-use Rattle.source_queue.proofs.nak.owing_count.Reads as reads
-use Rattle.source_queue.proofs.nak.owing_count.Lts as lts
-use Rattle.basis.proofs.bit_of.Reads as bit-of-reads
-use Rattle.source_queue.proofs.nak.next_pair.Reads as next-pair-reads
-use Rattle.source_queue.proofs.nak.request_at.Reads as request-at-reads
-use Rattle.source_queue.proofs.queue.owes.Reads as owes-reads
 
 abbrev Inv-loop : tie.InvT-loop
 Inv-loop bytes large at n i₀ k₀ m₀ i k m = (m + k ≤ n) × (m + owing (requestsFrom k large bytes i) ≡ owing (requestsFrom n large bytes at))
@@ -21,52 +15,42 @@ Inv-loop bytes large at n i₀ k₀ m₀ i k m = (m + k ≤ n) × (m + owing (re
 abbrev μ-loop : tie.MeasureT-loop
 μ-loop bytes large at n i₀ k₀ m₀ i k m = k
 
--- src/nak.rt:91:5
 loop-holds : tie.Need-loop-holds Inv-loop μ-loop
 loop-holds c = search needs
 
--- src/nak.rt:92:13
-request-at-requires : tie.Need-request-at-requires Inv-loop μ-loop
-request-at-requires c κs = search needs
+request-from-requires : tie.Need-request-from-requires Inv-loop μ-loop
+request-from-requires c κs = search needs
 
--- src/nak.rt:93:21
 owes-requires : tie.Need-owes-requires Inv-loop μ-loop
 owes-requires c κs = search needs
 
--- src/nak.rt:93:14
 bit-of-requires : tie.Need-bit-of-requires Inv-loop μ-loop
 bit-of-requires c κs = search needs
 
--- src/nak.rt:93:14
 cast-m : tie.Need-cast-m Inv-loop μ-loop
 cast-m c = search needs
 
--- src/nak.rt:93:9
 add-m : tie.Need-add-m Inv-loop μ-loop
 add-m c = search needs
 
--- src/nak.rt:94:9
 next-pair-requires : tie.Need-next-pair-requires Inv-loop μ-loop
 next-pair-requires c κs = search needs
 
--- src/nak.rt:95:9
 sub-k : tie.Need-sub-k Inv-loop μ-loop
 sub-k c = search needs
 
--- src/nak.rt:91:5
 loop-less : tie.Need-loop-less Inv-loop μ-loop
 loop-less c = search needs
 
--- src/nak.rt:91:5
 loop-again : tie.Need-loop-again Inv-loop μ-loop
 loop-again c = let t = c .before .before .before in
     let l = t .before .before in
-    let a = l .before .before .args in
-    (search needs
-    , rw (c .next-pair .ensures, c .before .bit-of .ensures .0, c .before .before .owes .ensures, t .request-at .ensures)
-    (owing-turn (a .large) (a .bytes .now) (l .loop .m) (l .loop .k) (l .loop .i) (t .before .loop-test .taken) ∙ l .loop .inv .1))
+    let a = l .before .before .args in (
+      search needs,
+      rw (c .next-pair .ensures, c .before .bit-of .ensures .0, c .before .before .owes .ensures, t .request-from .ensures)
+          (owing-turn (a .large) (a .bytes .now) (l .loop .m) (l .loop .k) (l .loop .i) (t .before .loop-test .taken) ∙ l .loop .inv .1),
+    )
 
--- src/nak.rt:85:1
 returns : tie.Need-returns Inv-loop μ-loop
 returns c = let l = c .before in
     let a = l .before .before .args in
@@ -79,7 +63,7 @@ owing-count-spec =
     Inv-loop
     μ-loop
     loop-holds
-    request-at-requires
+    request-from-requires
     owes-requires
     bit-of-requires
     cast-m

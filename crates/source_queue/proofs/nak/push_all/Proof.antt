@@ -1,17 +1,12 @@
 -- The rest of the requests pushed behind what is there gives what all of them give.
 -- Assumes nothing.
-use mathlib.Core.Path.{_≡_, sym, ap, _∙_}
+use mathlib.Core.Path.{_≡_, sym, _∙_}
 use Rattle.rules.specs.Reading.{requestsFrom}
 use Rattle.rules.specs.Queues.{pushAll}
 use Rattle.source_queue.proofs.Requests.{push-turn, push-end}
 use borrow.Author.Needs.{needs}
 use Rattle.source_queue.proofs.nak.push_all.Statement.{statement}
 use Rattle.source_queue.proofs.nak.push_all.Tie as tie
-use Rattle.source_queue.proofs.nak.push_all.Reads as reads
-use Rattle.source_queue.proofs.nak.push_all.Lts as lts
-use Rattle.source_queue.proofs.nak.next_pair.Reads as next-pair-reads
-use Rattle.source_queue.proofs.nak.request_at.Reads as request-at-reads
-use Rattle.source_queue.proofs.queue.push_owed.Reads as push-owed-reads
 
 abbrev Inv-loop : tie.InvT-loop
 Inv-loop bytes large at n u₀ i₀ k₀ u i k = pushAll u (requestsFrom k large bytes i) ≡ pushAll u₀ (requestsFrom n large bytes at)
@@ -19,39 +14,31 @@ Inv-loop bytes large at n u₀ i₀ k₀ u i k = pushAll u (requestsFrom k large
 abbrev μ-loop : tie.MeasureT-loop
 μ-loop bytes large at n u₀ i₀ k₀ u i k = k
 
--- src/nak.rt:107:5
 loop-holds : tie.Need-loop-holds Inv-loop μ-loop
 loop-holds c = search needs
 
--- src/nak.rt:108:13
-request-at-requires : tie.Need-request-at-requires Inv-loop μ-loop
-request-at-requires c κs = search needs
+request-from-requires : tie.Need-request-from-requires Inv-loop μ-loop
+request-from-requires c κs = search needs
 
--- src/nak.rt:109:9
 push-owed-requires : tie.Need-push-owed-requires Inv-loop μ-loop
 push-owed-requires c κs = search needs
 
--- src/nak.rt:110:9
 next-pair-requires : tie.Need-next-pair-requires Inv-loop μ-loop
 next-pair-requires c κs = search needs
 
--- src/nak.rt:111:9
 sub-k : tie.Need-sub-k Inv-loop μ-loop
 sub-k c = search needs
 
--- src/nak.rt:107:5
 loop-less : tie.Need-loop-less Inv-loop μ-loop
 loop-less c = search needs
 
--- src/nak.rt:107:5
 loop-again : tie.Need-loop-again Inv-loop μ-loop
 loop-again c = let t = c .before .before in
     let l = t .before .before in
     let a = l .before .before .args in
-    rw (c .next-pair .ensures, c .before .push-owed .ensures, t .request-at .ensures)
+    rw (c .next-pair .ensures, c .before .push-owed .ensures, t .request-from .ensures)
     (push-turn (a .large) (a .bytes .now) (l .loop .u) (l .loop .k) (l .loop .i) (t .before .loop-test .taken) ∙ l .loop .inv)
 
--- src/nak.rt:101:1
 returns : tie.Need-returns Inv-loop μ-loop
 returns c = let l = c .before in
     let a = l .before .before .args in
@@ -64,7 +51,7 @@ push-all-spec =
     Inv-loop
     μ-loop
     loop-holds
-    request-at-requires
+    request-from-requires
     push-owed-requires
     next-pair-requires
     sub-k

@@ -9,8 +9,6 @@ use Rattle.basis.proofs.Lists.{front-more, front-all}
 use borrow.Author.Needs.{needs}
 use Rattle.source_queue.proofs.names.copied.Statement.{statement}
 use Rattle.source_queue.proofs.names.copied.Tie as tie
-use Rattle.source_queue.proofs.names.copied.Reads as reads
-use Rattle.source_queue.proofs.names.copied.Lts as lts
 
 abbrev Inv-loop : tie.InvT-loop
 Inv-loop name a₀ i₀ a i = (i ≤ length name) × (a ≡ take i name ++ drop i (replicate 255 0))
@@ -18,33 +16,26 @@ Inv-loop name a₀ i₀ a i = (i ≤ length name) × (a ≡ take i name ++ drop 
 abbrev μ-loop : tie.MeasureT-loop
 μ-loop name a₀ i₀ a i = length name - i
 
--- src/names.rt:16:5
 loop-holds : tie.Need-loop-holds Inv-loop μ-loop
 loop-holds c = search needs
 
--- src/names.rt:17:16
 shared-slice-read-a : tie.Need-shared-slice-read-a Inv-loop μ-loop
 shared-slice-read-a c = search needs
 
--- src/names.rt:17:9
 array-write-a : tie.Need-array-write-a Inv-loop μ-loop
 array-write-a c = search needs
 
--- src/names.rt:18:9
 add-i : tie.Need-add-i Inv-loop μ-loop
 add-i c = search needs
 
--- src/names.rt:16:5
 loop-less : tie.Need-loop-less Inv-loop μ-loop
 loop-less c = search needs
 
--- src/names.rt:16:5
 loop-again : tie.Need-loop-again Inv-loop μ-loop
 loop-again c = let l = c .before .before .loop in
     let n = c .before .before .before .args .name .now in
     (search needs, ap (λ (t : List ℕ). set t (l .i) (getD n (l .i) 0)) (l .inv .1) ∙ front-more (replicate 255 0) n (l .i) 0 (omega arith) (omega arith))
 
--- src/names.rt:10:1
 returns : tie.Need-returns Inv-loop μ-loop
 returns c = c .before .loop .inv .1 ∙ front-all 255 (c .before .loop .i) (c .before .before .args .name .now) 0 (omega arith)
 

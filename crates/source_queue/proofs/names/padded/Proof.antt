@@ -1,22 +1,18 @@
+-- The copy, or zeros for a name that is too long.
+-- Assumes nothing.
 use Rattle.basis.proofs.Pick.{picks}
 use Rattle.rules.specs.Put.{padded}
 use borrow.Author.Needs.{needs}
 use Rattle.source_queue.proofs.names.padded.Statement.{statement}
 use Rattle.source_queue.proofs.names.padded.Tie as tie
-use Rattle.source_queue.proofs.names.padded.Reads as reads
-use Rattle.source_queue.proofs.names.padded.Lts as lts
-use Rattle.source_queue.proofs.names.copied.Reads as copied-reads
 
--- src/names.rt:28:9
 returns : tie.Need-returns
 unfolding padded
 returns c = search picks depth 6
 
--- src/names.rt:30:5
 copied-requires : tie.Need-copied-requires
 copied-requires c κs = search needs
 
--- src/names.rt:24:1
 returns-2 : tie.Need-returns-2
 unfolding padded
 returns-2 c = rw (c .copied .ensures) (search picks depth 6)

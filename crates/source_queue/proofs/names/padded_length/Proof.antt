@@ -5,19 +5,14 @@ use Rattle.rules.specs.Put.{paddedLength}
 use borrow.Author.Needs.{needs}
 use Rattle.source_queue.proofs.names.padded_length.Statement.{statement}
 use Rattle.source_queue.proofs.names.padded_length.Tie as tie
-use Rattle.source_queue.proofs.names.padded_length.Reads as reads
-use Rattle.source_queue.proofs.names.padded_length.Lts as lts
 
--- src/names.rt:37:9
 returns : tie.Need-returns
 unfolding paddedLength
 returns c = search picks depth 6
 
--- src/names.rt:39:5
 cast-result : tie.Need-cast-result
 cast-result c = search needs
 
--- src/names.rt:33:1
 returns-2 : tie.Need-returns-2
 unfolding paddedLength
 returns-2 c = search picks depth 6

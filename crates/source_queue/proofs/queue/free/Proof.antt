@@ -1,16 +1,14 @@
+-- Truncated as the definition has it.
+-- Assumes nothing.
 use Rattle.rules.specs.Queues.{free}
 use borrow.Author.Needs.{needs}
 use Rattle.source_queue.proofs.queue.free.Statement.{statement}
 use Rattle.source_queue.proofs.queue.free.Tie as tie
-use Rattle.source_queue.proofs.queue.free.Reads as reads
-use Rattle.source_queue.proofs.queue.free.Lts as lts
 
--- src/queue.rt:67:9
 returns : tie.Need-returns
 unfolding free
 returns c = search needs
 
--- src/queue.rt:63:1
 returns-2 : tie.Need-returns-2
 unfolding free
 returns-2 c = search needs

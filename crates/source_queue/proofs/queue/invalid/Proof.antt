@@ -1,16 +1,14 @@
+-- The tests are the definition's.
+-- Assumes nothing.
 use Rattle.basis.proofs.Pick.{picks}
 use Rattle.rules.specs.Queues.{invalid}
 use Rattle.source_queue.proofs.queue.invalid.Statement.{statement}
 use Rattle.source_queue.proofs.queue.invalid.Tie as tie
-use Rattle.source_queue.proofs.queue.invalid.Reads as reads
-use Rattle.source_queue.proofs.queue.invalid.Lts as lts
 
--- src/queue.rt:38:9
 returns : tie.Need-returns
 unfolding invalid
 returns c = search picks depth 6
 
--- src/queue.rt:34:1
 returns-2 : tie.Need-returns-2
 unfolding invalid
 returns-2 c = search picks depth 6

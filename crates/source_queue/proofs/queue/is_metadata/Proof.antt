@@ -1,16 +1,14 @@
+-- The tests are the definition's.
+-- Assumes nothing.
 use Rattle.basis.proofs.Pick.{picks}
 use Rattle.rules.specs.Queues.{isMetadata}
 use Rattle.source_queue.proofs.queue.is_metadata.Statement.{statement}
 use Rattle.source_queue.proofs.queue.is_metadata.Tie as tie
-use Rattle.source_queue.proofs.queue.is_metadata.Reads as reads
-use Rattle.source_queue.proofs.queue.is_metadata.Lts as lts
 
--- src/queue.rt:18:9
 returns : tie.Need-returns
 unfolding isMetadata
 returns c = search picks depth 6
 
--- src/queue.rt:14:1
 returns-2 : tie.Need-returns-2
 unfolding isMetadata
 returns-2 c = search picks depth 6

@@ -1,22 +1,18 @@
+-- The tests are the definition's.
+-- Assumes nothing.
 use Rattle.basis.proofs.Pick.{picks, told}
 use Rattle.rules.specs.Queues.{owes}
 use borrow.Author.Needs.{needs}
 use Rattle.source_queue.proofs.queue.owes.Statement.{statement}
 use Rattle.source_queue.proofs.queue.owes.Tie as tie
-use Rattle.source_queue.proofs.queue.owes.Reads as reads
-use Rattle.source_queue.proofs.queue.owes.Lts as lts
-use Rattle.source_queue.proofs.queue.is_metadata.Reads as is-metadata-reads
 
--- src/queue.rt:27:8
 is-metadata-requires : tie.Need-is-metadata-requires
 is-metadata-requires c κs = search needs
 
--- src/queue.rt:28:9
 returns : tie.Need-returns
 unfolding owes
 returns c = search (picks, told) depth 8
 
--- src/queue.rt:24:1
 returns-2 : tie.Need-returns-2
 unfolding owes
 returns-2 c = search (picks, told) depth 8

@@ -1,3 +1,5 @@
+-- The shifted places; an empty queue stays at 0.
+-- Assumes nothing.
 use native.Mathlib.Omega.{arith}
 use mathlib.Core.Path.{_≡_}
 use Prim.Native.Nat.{_-_}
@@ -5,25 +7,18 @@ use Rattle.rules.specs.Queues.{pop}
 use borrow.Author.Needs.{needs}
 use Rattle.source_queue.proofs.queue.pop.Statement.{statement}
 use Rattle.source_queue.proofs.queue.pop.Tie as tie
-use Rattle.source_queue.proofs.queue.pop.Reads as reads
-use Rattle.source_queue.proofs.queue.pop.Lts as lts
-use Rattle.source_queue.proofs.queue.shifted.Reads as shifted-reads
 
--- src/queue.rt:121:9
 shifted-requires : tie.Need-shifted-requires
 shifted-requires c κs = search needs
 
--- src/queue.rt:122:54
 sub-t10 : tie.Need-sub-t10
 sub-t10 c = search needs
 
--- src/queue.rt:116:1
 returns : tie.Need-returns
 unfolding pop
 returns c = let z : 0 ≡ c .before .before .before .args .q .count - 1 = omega arith in
     cc
 
--- src/queue.rt:116:1
 returns-2 : tie.Need-returns-2
 unfolding pop
 returns-2 c = cc

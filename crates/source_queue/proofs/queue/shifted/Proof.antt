@@ -11,8 +11,6 @@ use Rattle.rules.specs.declared.SegmentRequest.{SegmentRequest}
 use borrow.Author.Needs.{needs}
 use Rattle.source_queue.proofs.queue.shifted.Statement.{statement}
 use Rattle.source_queue.proofs.queue.shifted.Tie as tie
-use Rattle.source_queue.proofs.queue.shifted.Reads as reads
-use Rattle.source_queue.proofs.queue.shifted.Lts as lts
 
 abbrev Inv-loop : tie.InvT-loop
 Inv-loop a b₀ i₀ b i = (i ≤ 63) × (length a ≡ 64) × (b ≡ take i (drop 1 a) ++ drop i a)
@@ -20,49 +18,38 @@ Inv-loop a b₀ i₀ b i = (i ≤ 63) × (length a ≡ 64) × (b ≡ take i (dro
 abbrev μ-loop : tie.MeasureT-loop
 μ-loop a b₀ i₀ b i = 63 - i
 
--- src/queue.rt:107:5
 loop-holds : tie.Need-loop-holds Inv-loop μ-loop
 loop-holds c = search needs
 
--- src/queue.rt:108:18
 add-b : tie.Need-add-b Inv-loop μ-loop
 add-b c = search needs
 
--- src/queue.rt:108:16
 mul-b : tie.Need-mul-b Inv-loop μ-loop
 mul-b c = search needs
 
--- src/queue.rt:108:16
 array-copy-out-b : tie.Need-array-copy-out-b Inv-loop μ-loop
 array-copy-out-b c = search needs
 
--- src/queue.rt:108:9
 mul-b-2 : tie.Need-mul-b-2 Inv-loop μ-loop
 mul-b-2 c = search needs
 
--- src/queue.rt:108:9
 array-set-from-b : tie.Need-array-set-from-b Inv-loop μ-loop
 array-set-from-b c = search needs
 
--- src/queue.rt:109:9
 add-i : tie.Need-add-i Inv-loop μ-loop
 add-i c = search needs
 
--- src/queue.rt:107:5
 loop-less : tie.Need-loop-less Inv-loop μ-loop
 loop-less c = search needs
 
--- src/queue.rt:107:5
 loop-again : tie.Need-loop-again Inv-loop μ-loop
 loop-again c = let l = c .before .before .loop in
     let a = c .before .before .before .args .t1 in
     (search needs, search needs, ap (λ (t : List SegmentRequest). set t (l .i) (getD a (l .i + 1) blank)) (l .inv .2) ∙ shift-more a (l .i) blank (omega arith) (omega (arith, length-drop 1 a)))
 
--- src/queue.rt:111:5
 array-set-from-b-2 : tie.Need-array-set-from-b-2 Inv-loop μ-loop
 array-set-from-b-2 c = search needs
 
--- src/queue.rt:102:1
 returns : tie.Need-returns Inv-loop μ-loop
 returns c = let l = c .before .loop in
     let a = c .before .before .args .t1 in
