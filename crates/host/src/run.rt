@@ -1,0 +1,157 @@
+// One call after another on a state that goes by value.
+ghost use Prim.Native.Nat.{_≤_};
+use crate::read;
+use crate::write;
+use pdu_read::field::byte_at;
+use pdu_read::field::part_of;
+use rules::State;
+
+// Where the list and the answers stand after a call, the state, and the status: 0 go on, 1 unknown kind, 2 cut list, 3 no room.
+pub struct Turn {
+    pub at: usize,
+    pub put: usize,
+    pub status: u8,
+    pub state: State,
+}
+
+fn stopped(s: State, at: usize, put: usize, status: u8) -> Turn {
+    Turn { at: at, put: put, status: status, state: s }
+}
+
+// Kind 1: 251 bytes of configuration, 11 of request, 8 of size, then two names behind their lengths.
+fn put_call(s: State, calls: &[u8], at: usize, answers: &mut [u8], put: usize) -> Turn {
+    let names = read::on(at, 270);
+    if !read::whole(calls, at, 272) {
+        return stopped(s, at, put, 2);
+    }
+    let n = read::length(calls, names, 2);
+    let second = read::on(names, read::on(n, 2));
+    if !read::whole(calls, second, 2) {
+        return stopped(s, at, put, 2);
+    }
+    let m = read::length(calls, second, 2);
+    let end = read::on(second, read::on(m, 2));
+    if !read::whole(calls, end, 0) {
+        return stopped(s, at, put, 2);
+    }
+    let from = part_of(calls, read::on(names, 2), n);
+    let to = part_of(calls, read::on(second, 2), m);
+    let c = read::config(calls, at);
+    let q = read::request(calls, read::on(at, 251));
+    let size = basis::num_at(calls, read::on(at, 262), 8);
+    let d = source::put(s, c, q, from, to, size);
+    let a = d.answer;
+    let t = d.state;
+    let p = write::add(answers, put, 1, 1);
+    let p2 = write::add(answers, p, 1, write::answer_no(a) as u64);
+    stopped(t, end, p2, 0)
+}
+
+// Kind 2: a delivery behind four bytes of length.
+fn deliver_call(s: State, calls: &[u8], at: usize, answers: &mut [u8], put: usize) -> Turn {
+    if !read::whole(calls, at, 4) {
+        return stopped(s, at, put, 2);
+    }
+    let n = read::length(calls, at, 4);
+    let from = read::on(at, 4);
+    if !read::whole(calls, from, n) {
+        return stopped(s, at, put, 2);
+    }
+    let d = source::deliver(s, part_of(calls, from, n));
+    let a = d.answer;
+    let t = d.state;
+    let p = write::add(answers, put, 1, 2);
+    let p2 = write::add(answers, p, 1, write::answer_no(a) as u64);
+    stopped(t, read::on(from, n), p2, 0)
+}
+
+fn at_most(a: usize, b: usize) -> usize
+    ensures { λ r. ⌜ r ≤ b ⌝ }
+{
+    if a < b { a } else { b }
+}
+
+// Kind 3: the expiry flag, four bytes of lent length, four of the out buffer's.
+fn step_call(s: State, calls: &[u8], at: usize, file: &[u8], answers: &mut [u8], put: usize) -> Turn {
+    if !read::whole(calls, at, 9) {
+        return stopped(s, at, put, 2);
+    }
+    let expired = byte_at(calls, at) != 0;
+    let lent = part_of(file, 0, read::length(calls, read::on(at, 1), 4));
+    let asked = read::length(calls, read::on(at, 5), 4);
+    let room = at_most(asked, 4608);
+    let mut space = [0u8; 4608];
+    let d = source::step(s, lent, expired, &mut space[..room]);
+    let a = d.answer;
+    let e = d.events;
+    let t = d.state;
+    let n = d.length;
+    let p = write::add(answers, put, 1, 3);
+    let p2 = write::add(answers, p, 1, write::answer_no(a) as u64);
+    let p3 = write::add(answers, p2, 2, n as u64);
+    let p4 = write::add_bytes(answers, p3, part_of(&space, 0, n));
+    let p5 = write::add_events(answers, p4, e);
+    stopped(t, read::on(at, 9), p5, 0)
+}
+
+// Kind 4: an entity id and a sequence number.
+fn cancel_call(s: State, calls: &[u8], at: usize, answers: &mut [u8], put: usize) -> Turn {
+    if !read::whole(calls, at, 18) {
+        return stopped(s, at, put, 2);
+    }
+    let d = source::cancel(s, read::entity(calls, at), read::number(calls, read::on(at, 9)));
+    let yes = d.yes;
+    let t = d.state;
+    let p = write::add(answers, put, 1, 4);
+    let p2 = write::add(answers, p, 1, basis::bit_of(yes) as u64);
+    stopped(t, read::on(at, 18), p2, 0)
+}
+
+// Kind 5.
+fn reset_call(s: State, at: usize, answers: &mut [u8], put: usize) -> Turn {
+    let t = source::reset(s);
+    let p = write::add(answers, put, 1, 5);
+    stopped(t, at, p, 0)
+}
+
+// One call; its record in the answers takes at most 4,648 bytes, and two more close the answers.
+fn call(s: State, calls: &[u8], at: usize, file: &[u8], answers: &mut [u8], put: usize) -> Turn {
+    if !read::whole(answers, put, 4650) {
+        return stopped(s, at, put, 3);
+    }
+    let kind = byte_at(calls, at);
+    let body = read::on(at, 1);
+    match kind {
+        1 => put_call(s, calls, body, answers, put),
+        2 => deliver_call(s, calls, body, answers, put),
+        3 => step_call(s, calls, body, file, answers, put),
+        4 => cancel_call(s, calls, body, answers, put),
+        5 => reset_call(s, body, answers, put),
+        _ => stopped(s, at, put, 1),
+    }
+}
+
+// The list begins with the number that the handler is made with.
+pub fn run(calls: &[u8], file: &[u8], answers: &mut [u8]) -> u64 {
+    let mut s = source::new(read::number(calls, 0));
+    let mut at: usize = 9;
+    let mut put: usize = 0;
+    let mut status: u8 = if calls.len() < 9 { 2 } else { 0 };
+    let mut k = 0;
+    while k < calls.len() {
+        if status != 0 {
+            break;
+        }
+        if at >= calls.len() {
+            break;
+        }
+        let t = call(s, calls, at, file, answers, put);
+        s = t.state;
+        at = t.at;
+        put = t.put;
+        status = t.status;
+        k += 1;
+    }
+    let p = write::add(answers, put, 1, 255);
+    write::add(answers, p, 1, status as u64) as u64
+}
