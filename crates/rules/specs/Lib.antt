@@ -1,6 +1,7 @@
 pub mod Numbers
 pub mod Utf8
 pub mod Checksum
+pub mod ChecksumCases
 pub mod Fields
 pub mod Layout
 pub mod Reading
@@ -14,8 +15,12 @@ pub mod Deliver
 pub mod Step
 pub mod Cancel
 pub mod Calls
+pub mod PduCases
+pub mod Tiles
+pub mod Runs
+pub mod Demand
+pub mod Companions
 pub mod Cases
 pub mod OneOutcome
-pub mod ChecksumCases
 pub mod Exactly
 pub mod Good

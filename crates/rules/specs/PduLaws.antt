@@ -1,28 +1,31 @@
--- What follows from the layouts and their readings: reading what was written gives its meaning back. Proofs: proofs/Round.antt, proofs/Heard.antt.
+-- What follows from the layouts and their readings: reading what was written gives its meaning back.
+-- The other way round, only what was written is read. Proofs: proofs/Round.antt, Heard.antt, ExactBody.antt, ExactFrame.antt.
 -- Assumes nothing.
 use mathlib.Core.Path.{_≡_}
 use mathlib.Core.Logic.{_↔_, _⊎_}
 use mathlib.Core.Bool.{Bool, true, false}
 use mathlib.Core.List.{List, [], _∷_, _++_}
 use mathlib.Core.Option.{Option, some}
-use Prim.Native.Nat.{ℕ, _+_, _-_, _*_, _^_, _<_, _≤_}
-use lib.ListN.{length, take}
-use Rattle.basis.specs.Bytes.{numAt}
+use Prim.Native.Nat.{ℕ, _+_, _-_, _*_, _/_, _%_, _^_, _<_, _≤_}
+use lib.Dec.{eqb}
+use lib.ListN.{length, take, set}
+use Rattle.basis.specs.Pick.{pick}
+use Rattle.basis.specs.Bytes.{byte, numAt, Bytes}
 use Rattle.rules.specs.Fields.{wire}
 use Rattle.rules.specs.Numbers.{goodWidth, H, F, C}
 use Rattle.rules.specs.Checksum.{crc16}
-use Rattle.rules.specs.Layout.{Said, metadata, fileData, eof, ackFinished, Heard, finished, ackEof, nak, keepAlive, Pdu, headBytes, layoutHeard, encode, encodeHeard, pduLength}
-use Rattle.rules.specs.Reading.{reserved, lengthIn, frameIn, framedIn, headIn, hIn, bodyIn, bodyOf, areTlvs, requestsFrom}
+use Rattle.rules.specs.Layout.{Said, metadata, fileData, eof, ackFinished, Heard, finished, ackEof, nak, keepAlive, Pdu, headBytes, layout, layoutHeard, trailer, encode, encodeHeard, pduLength}
+use Rattle.rules.specs.Reading.{reserved, lengthIn, frameIn, framedIn, headIn, hIn, bodyIn, bodyOf, areTlvs, directiveIn, requestsFrom}
 use Rattle.rules.specs.Decoding.{decode, isEofIn}
 use Rattle.rules.specs.declared.Head.{Head}
 use Rattle.rules.specs.declared.Frame.{Frame}
 use Rattle.rules.specs.declared.Framed.{Framed}
-use Rattle.rules.specs.declared.Framed.the-variants.{Whole}
+use Rattle.rules.specs.declared.Framed.the-variants.{Malformed as NoFrame, Whole}
 use Rattle.rules.specs.declared.SegmentRequest.{SegmentRequest}
 use Rattle.rules.specs.declared.Meaning.{Meaning}
 use Rattle.rules.specs.declared.Meaning.the-variants.{Finished, AckOfEof, Nak, KeepAlive}
 use Rattle.rules.specs.declared.Body.{Body}
-use Rattle.rules.specs.declared.Body.the-variants.{Means}
+use Rattle.rules.specs.declared.Body.the-variants.{Malformed, CantProcess, Means}
 
 -- ---- what can be written
 
@@ -120,3 +123,54 @@ pub data Tlvs : List ℕ → Type 0 where
 -- LAW tlvs: the test of a Finished PDU's end says yes exactly to runs of TLVs of type 1 and 6, each closing inside the body.
 abbrev pub TlvsExactly : Type 0
 TlvsExactly = (s : List ℕ) → (areTlvs s ≡ true) ↔ Tlvs s
+
+-- ---- the other direction: what is read was written
+
+-- "Spare bits .. are not judged": a body with those of Finished and ACK 0
+unfoldable pub cleared : List ℕ → List ℕ
+cleared b =
+    pick (eqb (byte b 0) 5) (set b 1 (byte b 1 / 16 * 16 + byte b 1 % 8))
+    (pick (eqb (byte b 0) 6) (set b 2 (byte b 2 / 16 * 16 + byte b 2 % 4))
+    b)
+
+-- what a body comes to by the layouts: a peer's meaning, an ACK of Finished, or one of the three that stay unread
+pub data ByLayout (large : Bool) (b : List ℕ) : Body → Type 0 where
+  heard : (m : Heard) → Hearable large m → wire (layoutHeard large m) ≡ cleared b → ByLayout large b (Means (meaningOf m))
+  ofFinished : (c t : ℕ) → Sayable large (ackFinished c t) → reserved c ≡ false → wire (layout large (ackFinished c t)) ≡ cleared b → ByLayout large b CantProcess
+  unread : (code : ℕ) (rest : List ℕ) → (code ≡ 4) ⊎ (code ≡ 7) ⊎ (code ≡ 9) → code ∷ rest ≡ b → ByLayout large b CantProcess
+
+-- LAW body: a body is Malformed exactly if the layouts give it nothing, and else comes to what they give.
+abbrev pub BodyExactly : Type 0
+BodyExactly =
+    (large : Bool) (b : List ℕ) → Bytes b
+    → ((directiveIn large (byte b 0) b ≡ Malformed) ↔ ((r : Body) → ByLayout large b r → ⊥))
+    × ((r : Body) → ByLayout large b r → directiveIn large (byte b 0) b ≡ r)
+
+-- LAW widths: "width 1, 2, 4 or 8 bytes"
+abbrev pub WidthsExactly : Type 0
+WidthsExactly = (w : ℕ) → (goodWidth w ≡ true) ↔ ((w ≡ 1) ⊎ (w ≡ 2) ⊎ (w ≡ 4) ⊎ (w ≡ 8))
+
+-- LAW reserved: "Conditions 12 and 13 are reserved"
+abbrev pub ReservedExactly : Type 0
+ReservedExactly = (c : ℕ) → (reserved c ≡ true) ↔ ((c ≡ 12) ⊎ (c ≡ 13))
+
+-- "segmentation control and segment metadata flag .. are not judged": bytes with these two 0
+unfoldable pub clearedHead : List ℕ → List ℕ
+clearedHead s = set s 3 (byte s 3 / 16 % 8 * 16 + byte s 3 % 8)
+
+-- bytes that are a PDU by the layouts: header and body in front, then the CRC over these as they stand
+pub record IsPdu (s : List ℕ) (f : Frame) (body : List ℕ) : Type 0 where
+  pub fit : Fit (f .head)
+  pub short : length body + C (f .head .crc) < 65536
+  pub front : List ℕ
+  pub laid : headBytes (f .head) (f .filedata) (f .tosender) (length body + C (f .head .crc)) ++ body ≡ clearedHead front
+  pub closes : front ++ trailer (f .head .crc) front ≡ s
+  pub starts : f .start ≡ H (f .head)
+  pub ends : f .end ≡ H (f .head) + length body
+
+-- LAW frame: bytes are Malformed exactly if they are no PDU by the layouts; else their header, frame and body are read as they stand.
+abbrev pub FrameExactly : Type 0
+FrameExactly =
+    (s : List ℕ) → Bytes s
+    → ((framedIn s ≡ NoFrame) ↔ ((f : Frame) (body : List ℕ) → IsPdu s f body → ⊥))
+    × ((f : Frame) (body : List ℕ) → IsPdu s f body → (framedIn s ≡ Whole f) × (bodyIn s ≡ body))

@@ -1,0 +1,39 @@
+// EOF: condition, checksum, size.
+use super::header;
+use basis::put_be;
+use rules::Head;
+use rules::Written;
+ghost use mathlib.Core.Path.{_≡_};
+ghost use Prim.Native.Nat.{_+_, _≤_};
+ghost use lib.ListN.{length};
+ghost use Rattle.basis.specs.Laid.{laid, inFront};
+ghost use Rattle.rules.specs.Fields.{sizes};
+ghost use Rattle.rules.specs.Layout.{eof, layout, bodyBytes, encode, writtenOf};
+
+const EOF: u64 = 4;
+
+fn put_eof(out: &mut [u8], at: usize, large: bool, condition: u8, sum: u32, size: u64) -> usize
+    requires { ⌜ at + sizes (layout large (eof condition sum size)) ≤ length (now out) ⌝ }
+    ensures { λ r. ⌜ (r ≡ at + sizes (layout large (eof condition sum size))) × (now (out .exit) ≡ laid (now (out .entry)) at (bodyBytes large (eof condition sum size))) ⌝ }
+{
+    let f = header::size_width(large);
+    let flags = (condition as u64) * 16;
+    let p0 = put_be(out, at, 1, EOF);
+    let p1 = put_be(out, p0, 1, flags);
+    let p2 = put_be(out, p1, 4, sum as u64);
+    put_be(out, p2, f, size)
+}
+
+pub fn write_eof(out: &mut [u8], h: Head, condition: u8, sum: u32, size: u64) -> Written
+    ensures { λ r. ⌜ r ≡ writtenOf (encode h (eof condition sum size)) (now (out .entry)) ⌝ }
+    ensures { λ r. ⌜ now (out .exit) ≡ inFront (encode h (eof condition sum size)) (now (out .entry)) ⌝ }
+{
+    // The data field: code, condition and checksum are 6 bytes.
+    let n = 6 + header::size_width(h.large) + header::crc_length(h.crc);
+    if out.len() < header::head_length(h) + n {
+        return Written::Short;
+    }
+    let a = header::put_head(out, h, false, n);
+    let b = put_eof(out, a, h.large, condition, sum, size);
+    Written::Wrote(header::put_crc(out, b, h.crc))
+}

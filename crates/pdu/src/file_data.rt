@@ -1,0 +1,34 @@
+// File data: offset, bytes.
+use super::header;
+use basis::put_be;
+use basis::put_bytes;
+use rules::Head;
+use rules::Written;
+ghost use mathlib.Core.Path.{_≡_};
+ghost use Prim.Native.Nat.{_+_, _≤_};
+ghost use lib.ListN.{length};
+ghost use Rattle.basis.specs.Laid.{laid, inFront};
+ghost use Rattle.rules.specs.Fields.{sizes};
+ghost use Rattle.rules.specs.Layout.{fileData, layout, bodyBytes, encode, writtenOf};
+
+fn put_file_data(out: &mut [u8], at: usize, large: bool, offset: u64, bytes: &[u8]) -> usize
+    requires { ⌜ at + sizes (layout large (fileData offset (now bytes))) ≤ length (now out) ⌝ }
+    ensures { λ r. ⌜ (r ≡ at + sizes (layout large (fileData offset (now (bytes .entry))))) × (now (out .exit) ≡ laid (now (out .entry)) at (bodyBytes large (fileData offset (now (bytes .entry))))) ⌝ }
+{
+    let f = header::size_width(large);
+    let p0 = put_be(out, at, f, offset);
+    put_bytes(out, p0, bytes)
+}
+
+pub fn write_file_data(out: &mut [u8], h: Head, offset: u64, bytes: &[u8]) -> Written
+    ensures { λ r. ⌜ r ≡ writtenOf (encode h (fileData offset (now (bytes .entry)))) (now (out .entry)) ⌝ }
+    ensures { λ r. ⌜ now (out .exit) ≡ inFront (encode h (fileData offset (now (bytes .entry)))) (now (out .entry)) ⌝ }
+{
+    let n = header::size_width(h.large) + bytes.len() + header::crc_length(h.crc);
+    if out.len() < header::head_length(h) + n {
+        return Written::Short;
+    }
+    let a = header::put_head(out, h, true, n);
+    let b = put_file_data(out, a, h.large, offset, bytes);
+    Written::Wrote(header::put_crc(out, b, h.crc))
+}

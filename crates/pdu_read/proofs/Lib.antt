@@ -1,0 +1,3 @@
+pub mod Fields
+pub mod Held
+pub mod Tlvs

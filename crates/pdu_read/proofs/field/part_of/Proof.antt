@@ -1,0 +1,55 @@
+-- A cut behind the end is a cut at the end, and past the end nothing is there.
+-- Assumes nothing.
+use Rattle.pdu_read.proofs.Fields.{part-past, part-cut}
+use borrow.Author.Needs.{needs}
+use Rattle.pdu_read.proofs.field.part_of.Statement.{statement}
+use Rattle.pdu_read.proofs.field.part_of.Tie as tie
+
+sub-result : tie.Need-sub-result
+sub-result c = search needs
+
+part-result-start : tie.Need-part-result-start
+part-result-start c = search needs
+
+part-result-end : tie.Need-part-result-end
+part-result-end c = search needs
+
+returns : tie.Need-returns
+returns c = part-past _ _ _ (c .before .if1 .taken)
+
+sub-lesser : tie.Need-sub-lesser
+sub-lesser c = search needs
+
+lesser-requires : tie.Need-lesser-requires
+lesser-requires c κs = search needs
+
+add-e : tie.Need-add-e
+add-e c = search needs
+
+sub-result-2 : tie.Need-sub-result-2
+sub-result-2 c = search needs
+
+part-result-start-2 : tie.Need-part-result-start-2
+part-result-start-2 c = search needs
+
+part-result-end-2 : tie.Need-part-result-end-2
+part-result-end-2 c = search needs
+
+returns-2 : tie.Need-returns-2
+returns-2 c = part-cut _ _ _ _ (c .before .lesser .ensures)
+
+pub part-of-spec : {M : Type 1} → statement M
+part-of-spec =
+    tie.close
+    (tie.spec
+    sub-result
+    part-result-start
+    part-result-end
+    returns
+    sub-lesser
+    lesser-requires
+    add-e
+    sub-result-2
+    part-result-start-2
+    part-result-end-2
+    returns-2)

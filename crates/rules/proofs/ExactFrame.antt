@@ -1,0 +1,285 @@
+-- Bytes are a frame exactly if they are a PDU by the layouts: what the tests say of the header's bytes is what the writer puts there.
+-- Assumes nothing.
+use mathlib.Core.Path.{_≡_, refl, sym, ap, ap₂, subst, _∙_}
+use mathlib.Core.Bool.{Bool, true, false, false≢true}
+use mathlib.Core.List.{List, [], _∷_, _++_, append-nil, append-assoc}
+use Prim.Native.Nat.{ℕ, zero, suc, _+_, _-_, _*_, _/_, _%_, _^_, _<_, _≤_}
+use native.Mathlib.Nat.{mod-eq-of-lt}
+use native.Mathlib.Omega.{arith}
+use lib.ListN.{length, take, drop, take-append-drop, length-take, length-drop}
+use lib.Dec.{eqb, ltb}
+use borrow.Author.Tests.{eqb-true, ltb-false}
+use Rattle.basis.specs.Pick.{pick, flag}
+use Rattle.basis.specs.Bytes.{be, num, part, byte, numAt, Bytes}
+use Rattle.basis.proofs.Pick.{cases}
+use Rattle.rules.specs.Fields.{Field, nat, raw, wire}
+use Rattle.rules.specs.Numbers.{goodWidth, H, C}
+use Rattle.rules.specs.Checksum.{crc16}
+use Rattle.rules.specs.Layout.{byte0, byte3, headFields, headBytes, trailer}
+use Rattle.rules.specs.Reading.{bitIn, versionIn, crcIn, lengthIn, idWidthIn, seqWidthIn, endIn, crcAgrees, wellFramed, frameIn, framedIn, bodyIn}
+use Rattle.rules.specs.PduLaws.{Fit, clearedHead, IsPdu, FrameExactly}
+use Rattle.rules.specs.declared.Head.{Head}
+use Rattle.rules.specs.declared.Frame.{Frame}
+use Rattle.rules.specs.declared.Framed.{Framed}
+use Rattle.rules.specs.declared.Framed.the-variants.{Malformed, Whole}
+use Rattle.rules.proofs.Places.{wire-append}
+use Rattle.rules.proofs.Round.{headWith, Frames, good-range, last-two, filedata-read, tosender-read, head-read, h-read, body-end-read, body-read, well-framed-read}
+use Rattle.rules.proofs.ExactBody.{bytes-drop, number}
+
+-- ---- a PDU is read as it stands
+
+-- behind the first four bytes
+abbrev idFields : Head → List Field → List Field
+idFields h fs = nat (h .source .0) (h .source .1) ∷ nat (h .number .0) (h .number .1) ∷ nat (h .source .0) (h .destination .1) ∷ fs
+
+-- the first four bytes one by one
+four : (x n d : ℕ) (fs : List Field) → d < 256
+    → wire (nat 1 x ∷ nat 2 n ∷ nat 1 d ∷ fs) ≡ (x / 1 % 256) ∷ (n / 256 % 256) ∷ (n / 1 % 256) ∷ d ∷ wire fs
+unfolding be
+four x n d fs l = ap (λ (v : ℕ). (x / 1 % 256) ∷ (n / 256 % 256) ∷ (n / 1 % 256) ∷ v ∷ wire fs) (omega arith)
+
+-- the fourth may be any that has the cleared one's widths
+fourth : (front : List ℕ) (a b c e : ℕ) (r : List ℕ) → a ∷ b ∷ c ∷ e ∷ r ≡ clearedHead front → Bytes front
+    → (d : ℕ) × (d < 256) × (d / 16 % 8 * 16 + d % 8 ≡ e) × (a ∷ b ∷ c ∷ d ∷ r ≡ front)
+unfolding clearedHead byte
+fourth [] a b c e r q y = absurd (false≢true (cc q))
+fourth (x ∷ []) a b c e r q y = absurd (false≢true (cc q))
+fourth (x ∷ z ∷ []) a b c e r q y = absurd (false≢true (cc q))
+fourth (x ∷ z ∷ u ∷ []) a b c e r q y = absurd (false≢true (cc q))
+fourth (x ∷ z ∷ u ∷ d ∷ t) a b c e r q y = (d, y .1 .1 .1 .0, cc q, cc q)
+
+-- bytes behind a layout are its last field
+also : (fs : List Field) (t : List ℕ) → wire fs ++ t ≡ wire (fs ++ (raw t ∷ []))
+also fs t = ap (λ (l : List ℕ). wire fs ++ l) (sym (append-nil t)) ∙ sym (wire-append fs (raw t ∷ []))
+
+head-and : (h : Head) (filedata tosender : Bool) (n : ℕ) (body : List ℕ) → headBytes h filedata tosender n ++ body ≡ wire (headFields h filedata tosender n (raw body ∷ []))
+unfolding headBytes
+head-and h filedata tosender n body = also (headFields h filedata tosender n []) body
+
+bytes-front : (a s : List ℕ) → Bytes (a ++ s) → Bytes a
+bytes-front [] s y = tt
+bytes-front (b ∷ a) s y = (y .0, bytes-front a s (y .1))
+
+-- the widths that byte 3 says are those it was made of
+widths : (a b w q : ℕ) → a < 8 → b < 8 → (0 < w) × (w ≤ 8) → (0 < q) × (q ≤ 8) → a * 16 + b ≡ byte3 w q → (a + 1 ≡ w) × (b + 1 ≡ q)
+widths a b w q k l i j e =
+    let m : (w - 1) % 8 ≡ w - 1 = mod-eq-of-lt (omega arith) in
+    let n : (q - 1) % 8 ≡ q - 1 = mod-eq-of-lt (omega arith) in
+    let z : a * 16 + b ≡ (w - 1) * 16 + (q - 1) = rw (m, n) at e in
+    omega (arith, z)
+
+frames : {s : List ℕ} {f : Frame} {body : List ℕ} → Bytes s → IsPdu s f body → Frames s (f .head) (f .filedata) (f .tosender) body
+frames {s} {f} {body} y p =
+    let h = f .head in
+    let n = length body + C (h .crc) in
+    let x = byte0 (f .filedata) (f .tosender) (h .unacknowledged) (h .crc) (h .large) in
+    let i = good-range (h .source .0) (p .fit .id-width) in
+    let q = good-range (h .number .0) (p .fit .seq-width) in
+    let r = idFields h (raw body ∷ []) in
+    let t = trailer (h .crc) (p .front) in
+    let e = sym (four x n (byte3 (h .source .0) (h .number .0)) r (omega arith)) ∙ sym (head-and h (f .filedata) (f .tosender) n body) ∙ p .laid in
+    let b = bytes-front (p .front) (trailer (h .crc) (p .front)) (subst Bytes (sym (p .closes)) y) in
+    let d = fourth (p .front) _ _ _ _ _ e b in
+    let w = widths (d .0 / 16 % 8) (d .0 % 8) (h .source .0) (h .number .0) (omega arith) (omega arith) i q (d .2) in
+    record {
+      front = p .front;
+      closes = p .closes;
+      opens = record {
+        fit = p .fit;
+        fourth = d .0;
+        is-byte = d .1;
+        id-width = w .0;
+        seq-width = w .1;
+        at = record {
+          holds = sym (p .closes) ∙ ap (λ (l : List ℕ). l ++ t) (sym (d .3) ∙ sym (four x n (d .0) r (d .1))) ∙ also (headWith (d .0) h (f .filedata) (f .tosender) n (raw body ∷ [])) t;
+        };
+      };
+      short = p .short;
+    }
+
+read-as-it-stands : (s : List ℕ) → Bytes s → (f : Frame) (body : List ℕ) → IsPdu s f body → (framedIn s ≡ Whole f) × (bodyIn s ≡ body)
+unfolding framedIn frameIn
+read-as-it-stands s y f body p =
+    let q = frames y p in
+    let o = q .opens in
+    let at : ℕ → ℕ → Framed = λ i e. Whole (record { head = f .head; filedata = f .filedata; tosender = f .tosender; start = i; end = e }) in (
+      rw (well-framed-read q, head-read o, filedata-read o, tosender-read o, body-end-read q, h-read o) (ap₂ at (sym (p .starts)) (sym (p .ends))),
+      body-read q,
+    )
+
+-- ---- what is read was a PDU
+
+-- what the tests say
+record Tests (s : List ℕ) : Type 0 where
+  long : 4 ≤ length s
+  version : versionIn s ≡ 1
+  id-width : goodWidth (idWidthIn s) ≡ true
+  seq-width : goodWidth (seqWidthIn s) ≡ true
+  whole : length s ≡ endIn s
+  checks : crcIn s ≡ true → (2 ≤ lengthIn s) × (crcAgrees s ≡ true)
+
+yes : (b x : Bool) → pick b x false ≡ true → (b ≡ true) × (x ≡ true)
+yes true x e = (refl, e)
+yes false x e = absurd (false≢true e)
+
+no : (b x : Bool) → pick b false x ≡ true → (b ≡ false) × (x ≡ true)
+no true x e = absurd (false≢true e)
+no false x e = (refl, e)
+
+tests : (s : List ℕ) → wellFramed s ≡ true → Tests s
+unfolding wellFramed
+tests s t =
+    let a = no (ltb (length s) 4) _ t in
+    let b = yes (eqb (versionIn s) 1) _ (a .1) in
+    let c = yes (goodWidth (idWidthIn s)) _ (b .1) in
+    let d = yes (goodWidth (seqWidthIn s)) _ (c .1) in
+    let e = yes (eqb (length s) (endIn s)) _ (d .1) in
+    let f : crcIn s ≡ true → pick (ltb (lengthIn s) 2) false (crcAgrees s) ≡ true = λ x. rw x at (e .1) in
+    record {
+      long = ltb-false (length s) 4 (a .0);
+      version = eqb-true (versionIn s) 1 (b .0);
+      id-width = c .0;
+      seq-width = d .0;
+      whole = eqb-true (length s) (endIn s) (e .0);
+      checks = λ x. let g = no (ltb (lengthIn s) 2) (crcAgrees s) (f x) in (ltb-false (lengthIn s) 2 (g .0), g .1);
+    }
+
+-- the header's first byte from its bits
+flag-bit : (x k : ℕ) → flag (bitIn x k) ≡ x / k % 2
+unfolding bitIn
+flag-bit x k = go (x / k % 2) (omega arith)
+  where
+    go : (v : ℕ) → v < 2 → flag (eqb v 1) ≡ v
+    go zero l = refl
+    go (suc zero) l = refl
+    go (suc (suc v)) l = absurd (omega arith)
+
+from-bits : (x e d c b p q r t u : ℕ) → x ≡ e * 2 + u → e ≡ d * 2 + t → d ≡ c * 2 + r → c ≡ b * 2 + q → b ≡ 1 * 2 + p
+    → 32 + p * 16 + q * 8 + r * 4 + t * 2 + u ≡ x
+from-bits x e d c b p q r t u i j k l m = omega arith
+
+first-byte : (x : ℕ) → x / 32 ≡ 1 → byte0 (bitIn x 16) (bitIn x 8) (bitIn x 4) (bitIn x 2) (bitIn x 1) ≡ x
+first-byte x e =
+    rw (flag-bit x 16, flag-bit x 8, flag-bit x 4, flag-bit x 2, flag-bit x 1)
+    (from-bits x (x / 2) (x / 4) (x / 8) (x / 16) _ _ _ _ _ (omega arith) (omega arith) (omega arith) (omega arith) (omega arith))
+
+-- three numbers stand in front of enough bytes
+numbers : (w q : ℕ) (r : List ℕ) → Bytes r → 2 * w + q ≤ length r
+    → (u v z : ℕ) × (rest : List ℕ) × (u < 2 ^ (8 * w)) × (v < 2 ^ (8 * q)) × (z < 2 ^ (8 * w)) × (be w u ++ (be q v ++ (be w z ++ (rest ++ []))) ≡ r)
+    × Bytes rest × (length r ≡ 2 * w + q + length rest)
+numbers w q r y l =
+    let a = number w r y (omega arith) in
+    let b = number q (a .1) (a .4) (omega (arith, a .5)) in
+    let c = number w (b .1) (b .4) (omega (arith, a .5, b .5)) in
+    (a .0, b .0, c .0, c .1, a .2, b .2, c .2, rw (append-nil (c .1), c .3, b .3) (a .3), c .4, omega (arith, a .5, b .5, c .5))
+
+empty : (l : List ℕ) → length l ≡ 0 → l ≡ []
+empty [] e = refl
+empty (b ∷ l) e = absurd (omega arith)
+
+-- the body and the CRC behind a header
+closing : (crc : Bool) (s head rest : List ℕ) (size : ℕ) → Bytes rest → head ++ rest ≡ s → length rest ≡ size → length s ≡ endIn s
+    → (crc ≡ true → (2 ≤ size) × (crcAgrees s ≡ true))
+    → (body : List ℕ) × (length body + C crc ≡ size) × ((head ++ body) ++ trailer crc (head ++ body) ≡ s)
+unfolding trailer crcAgrees
+closing false s head rest size y e j l c = (rest, omega arith, append-nil (head ++ rest) ∙ e)
+closing true s head rest size y e j l c =
+    let g = c refl in
+    let k = length rest - 2 in
+    let body = take k rest in
+    let n = number 2 (drop k rest) (bytes-drop k rest y) (rw (length-drop k rest) (omega (arith, g .0))) in
+    let z = empty (n .1) (n .5 ∙ rw (length-drop k rest) (omega (arith, g .0))) in
+    let v = n .0 in
+    let p : (head ++ body) ++ be 2 v ≡ s = append-assoc head body (be 2 v)
+    ∙ ap (λ (t : List ℕ). head ++ (body ++ t)) (sym (append-nil (be 2 v)) ∙ ap (λ (t : List ℕ). be 2 v ++ t) (sym z) ∙ n .3)
+    ∙ ap (λ (t : List ℕ). head ++ t) (take-append-drop k rest) ∙ e in
+    let t = last-two (head ++ body) v (n .2) in
+    let i : v ≡ crc16 (head ++ body) =
+    sym (rw p at (t .1)) ∙ eqb-true _ _ (rw (← l) at (g .1)) ∙ ap crc16 (rw p at (t .0)) in
+    (body, rw (length-take k rest) (omega (arith, g .0)), ap (λ (u : ℕ). (head ++ body) ++ be 2 u) (sym i) ∙ p)
+
+-- the header's bytes as the writer makes them
+head-made : (h : Head) (filedata tosender : Bool) (a b c d n : ℕ) (body : List ℕ)
+    → byte0 filedata tosender (h .unacknowledged) (h .crc) (h .large) ≡ a → (a < 256) × (b < 256) × (c < 256) → n ≡ b * 256 + c
+    → d / 16 % 8 + 1 ≡ h .source .0 → d % 8 + 1 ≡ h .number .0
+    → headBytes h filedata tosender n ++ body ≡ a ∷ b ∷ c ∷ (d / 16 % 8 * 16 + d % 8) ∷ (wire (idFields h []) ++ body)
+head-made h filedata tosender a b c d n body x l e i q =
+    let k : byte3 (h .source .0) (h .number .0) ≡ d / 16 % 8 * 16 + d % 8 = rw (← i, ← q) (omega arith) in
+    let p : a / 1 % 256 ≡ a = omega arith in
+    let r : n / 256 % 256 ≡ b = omega arith in
+    let s : n / 1 % 256 ≡ c = omega arith in
+    let f = four (byte0 filedata tosender (h .unacknowledged) (h .crc) (h .large)) n (byte3 (h .source .0) (h .number .0)) (idFields h (raw body ∷ [])) (rw k (omega arith)) in
+    head-and h filedata tosender n body ∙ f ∙ rw (x, k, p, r, s) (ap (λ (t : List ℕ). a ∷ b ∷ c ∷ (d / 16 % 8 * 16 + d % 8) ∷ t) (simp (append-assoc, append-nil)))
+
+-- what the first byte, the fourth, and ids and number say
+abbrev headOf : ℕ → ℕ → ℕ → ℕ → ℕ → Head
+headOf a d u v z =
+    record {
+      unacknowledged = bitIn a 4;
+      crc = bitIn a 2;
+      large = bitIn a 1;
+      source = (d / 16 % 8 + 1, u);
+      number = (d % 8 + 1, v);
+      destination = (d / 16 % 8 + 1, z);
+    }
+
+abbrev frameOf : ℕ → Head → List ℕ → Frame
+frameOf a h body = record { head = h; filedata = bitIn a 16; tosender = bitIn a 8; start = H h; end = H h + length body }
+
+made : (a b c d u v z : ℕ) (body s : List ℕ) → let h = headOf a d u v z in
+    Fit h → (a < 256) × (b < 256) × (c < 256) → a / 32 ≡ 1 → length body + C (bitIn a 2) ≡ b * 256 + c
+    → ((a ∷ b ∷ c ∷ d ∷ wire (idFields h [])) ++ body) ++ trailer (bitIn a 2) ((a ∷ b ∷ c ∷ d ∷ wire (idFields h [])) ++ body) ≡ s
+    → IsPdu s (frameOf a h body) body
+unfolding clearedHead byte
+made a b c d u v z body s f l e n t =
+    let h = headOf a d u v z in
+    record {
+      fit = f;
+      short = omega arith;
+      front = (a ∷ b ∷ c ∷ d ∷ wire (idFields h [])) ++ body;
+      laid = head-made h (bitIn a 16) (bitIn a 8) a b c d (length body + C (bitIn a 2)) body (first-byte a e) l n refl refl;
+      closes = t;
+      starts = refl;
+      ends = refl;
+    }
+
+numbered : (a b c d u v z : ℕ) (r rest : List ℕ) → let h = headOf a d u v z in
+    Fit h → (a < 256) × (b < 256) × (c < 256) → Tests (a ∷ b ∷ c ∷ d ∷ r) → wire (idFields h (raw rest ∷ [])) ≡ r → Bytes rest → length rest ≡ b * 256 + c
+    → (f : Frame) × (body : List ℕ) × IsPdu (a ∷ b ∷ c ∷ d ∷ r) f body
+unfolding versionIn crcIn lengthIn byte numAt part num
+numbered a b c d u v z r rest f l t e y k =
+    let h = headOf a d u v z in
+    let s = a ∷ b ∷ c ∷ d ∷ r in
+    let j : (a ∷ b ∷ c ∷ d ∷ wire (idFields h [])) ++ rest ≡ s = rw (← e) (simp (append-assoc, append-nil)) in
+    let p =
+    closing (h .crc) s (a ∷ b ∷ c ∷ d ∷ wire (idFields h [])) rest (b * 256 + c) y j k (t .whole) (λ x. let g = t .checks x in (omega (arith, g .0), g .1)) in
+    (frameOf a h (p .0), p .0, made a b c d u v z (p .0) s f l (t .version) (p .1) (p .2))
+
+is-pdu : (a b c d : ℕ) (r : List ℕ) → Bytes (a ∷ b ∷ c ∷ d ∷ r) → Tests (a ∷ b ∷ c ∷ d ∷ r)
+    → (f : Frame) × (body : List ℕ) × IsPdu (a ∷ b ∷ c ∷ d ∷ r) f body
+unfolding lengthIn idWidthIn seqWidthIn byte numAt part num
+is-pdu a b c d r y t =
+    let w = d / 16 % 8 + 1 in
+    let q = d % 8 + 1 in
+    let l : length r ≡ 2 * w + q + (b * 256 + c) = omega (arith, t .whole) in
+    let m = numbers w q r (y .1 .1 .1 .1) (omega arith) in
+    numbered a b c d (m .0) (m .1) (m .2) r (m .3)
+    (record { id-width = t .id-width; one-width = refl {a = w}; seq-width = t .seq-width; source = m .4; number = m .5; destination = m .6 })
+    (y .0, y .1 .0, y .1 .1 .0) t (m .7) (m .8) (omega (arith, m .9))
+
+some-pdu : (s : List ℕ) → Bytes s → Tests s → (f : Frame) × (body : List ℕ) × IsPdu s f body
+some-pdu [] y t = absurd (omega (arith, t .long))
+some-pdu (a ∷ []) y t = absurd (omega (arith, t .long))
+some-pdu (a ∷ b ∷ []) y t = absurd (omega (arith, t .long))
+some-pdu (a ∷ b ∷ c ∷ []) y t = absurd (omega (arith, t .long))
+some-pdu (a ∷ b ∷ c ∷ d ∷ r) y t = is-pdu a b c d r y t
+
+pub frame-exactly : FrameExactly
+unfolding framedIn
+frame-exactly s y = (
+  (
+    λ e f body p. false≢true (cc (e, read-as-it-stands s y f body p .0)),
+    λ n. cases (λ (x : Framed). x ≡ Malformed) (wellFramed s) _ _ (λ t. let p = some-pdu s y (tests s t) in absurd (n (p .0) (p .1) (p .2))) (λ t. refl),
+  ),
+  read-as-it-stands s y,
+)

@@ -1,0 +1,421 @@
+-- Reading what was written gives it back: each field stands at its place, so the header is read first, then the frame, then each body.
+-- Assumes nothing.
+use mathlib.Core.Path.{_≡_, refl, sym, ap, _∙_}
+use mathlib.Core.Logic.{_⊎_, inl, inr}
+use mathlib.Core.Bool.{Bool, true, false, false≢true}
+use mathlib.Core.List.{List, [], _∷_, _++_, append-assoc, append-nil}
+use mathlib.Core.Option.{some}
+use Prim.Native.Nat.{ℕ, _+_, _-_, _*_, _/_, _%_, _^_, _<_, _≤_}
+use native.Mathlib.Nat.{add-sub-cancel, zero-add}
+use native.Mathlib.Omega.{arith}
+use lib.ListN.{length, take, drop, length-append}
+use lib.Dec.{eqb, leb, ltb}
+use lib.Seq.{take-append-seam, drop-append-seam}
+use borrow.Author.Tests.{eqb-true, ltb-false, eq-eqb, le-leb, le-ltb}
+use Rattle.basis.specs.Pick.{pick, flag}
+use Rattle.basis.specs.Bytes.{be, part, byte, numAt}
+use Rattle.basis.proofs.Pick.{cases, flag-lt, eqb-flag}
+use Rattle.basis.proofs.Bytes.{length-be, num-be}
+use Rattle.rules.specs.Fields.{Field, nat, raw, wire}
+use Rattle.rules.specs.Numbers.{goodWidth, H, F, C, isLarge}
+use Rattle.rules.specs.Checksum.{crc16}
+use Rattle.rules.specs.Layout.{Said, metadata, fileData, eof, ackFinished, byte0, byte3, headFields, headBytes, layout, trailer, pduBytes, isFileData, Pdu, bodyBytes, encode, pduLength}
+use Rattle.rules.specs.Reading.{bitIn, versionIn, fileDataIn, toSenderIn, unacknowledgedIn, crcIn, largeIn, lengthIn, idWidthIn, seqWidthIn, headIn, hIn, endIn, crcAgrees, wellFramed, bodyEnd, bodyIn}
+use Rattle.rules.specs.Decoding.{metadataIn, dataIn, eofIn, ackFinishedIn, saidIn, withHead, decode, isEofIn, fileDataOf}
+use Rattle.rules.specs.PduLaws.{Fit, Sayable, RoundTrip, SameBytes, CrcChecks, LengthAgrees, HeadersDiffer, WidthsExactly}
+use Rattle.rules.specs.declared.Head.{Head}
+use Rattle.rules.specs.declared.EntityId.{EntityId}
+use Rattle.rules.proofs.Places.{At, at-start, past, part-at, num-at, byte-at, rest-at, whole-length, opened, length-wire}
+use Rattle.rules.proofs.Sums.{crc16-lt}
+
+-- ---- the header
+
+pub widths-exactly : WidthsExactly
+unfolding goodWidth
+widths-exactly w =
+    let P : Bool → Type 0 = λ (b : Bool). b ≡ true → (w ≡ 1) ⊎ (w ≡ 2) ⊎ (w ≡ 4) ⊎ (w ≡ 8) in (
+      cases P (eqb w 1) _ _ (λ e t. inl (eqb-true w 1 e))
+          (λ n. cases P (eqb w 2) _ _ (λ e t. inr (inl (eqb-true w 2 e)))
+          (λ n. cases P (eqb w 4) _ _ (λ e t. inr (inr (inl (eqb-true w 4 e)))) (λ n t. inr (inr (inr (eqb-true w 8 t)))))),
+      good,
+    )
+  where
+    good : (w ≡ 1) ⊎ (w ≡ 2) ⊎ (w ≡ 4) ⊎ (w ≡ 8) → goodWidth w ≡ true
+    good (inl e) = rw e
+    good (inr (inl e)) = rw e
+    good (inr (inr (inl e))) = rw e
+    good (inr (inr (inr e))) = rw e
+
+pub good-range : (w : ℕ) → goodWidth w ≡ true → (0 < w) × (w ≤ 8)
+good-range w t = go (widths-exactly w .0 t)
+  where
+    go : (w ≡ 1) ⊎ (w ≡ 2) ⊎ (w ≡ 4) ⊎ (w ≡ 8) → (0 < w) × (w ≤ 8)
+    go (inl e) = omega arith
+    go (inr (inl e)) = omega arith
+    go (inr (inr (inl e))) = omega arith
+    go (inr (inr (inr e))) = omega arith
+
+-- a header with this destination
+abbrev withDestination : Head → EntityId → Head
+withDestination h d =
+    record {
+      unacknowledged = h .unacknowledged;
+      crc = h .crc;
+      large = h .large;
+      source = h .source;
+      number = h .number;
+      destination = d;
+    }
+
+-- a header whose byte 3 is d
+abbrev pub headWith : ℕ → Head → Bool → Bool → ℕ → List Field → List Field
+headWith d h filedata tosender n fs =
+    nat 1 (byte0 filedata tosender (h .unacknowledged) (h .crc) (h .large))
+    ∷ nat 2 n
+    ∷ nat 1 d
+    ∷ nat (h .source .0) (h .source .1)
+    ∷ nat (h .number .0) (h .number .1)
+    ∷ nat (h .source .0) (h .destination .1)
+    ∷ fs
+
+-- bytes that start with a header; segmentation control and segment metadata flag may be set
+pub record Opens (s : List ℕ) (h : Head) (filedata tosender : Bool) (n : ℕ) (fs : List Field) : Type 0 where
+  pub fit : Fit h
+  pub fourth : ℕ
+  pub is-byte : fourth < 256
+  pub id-width : fourth / 16 % 8 + 1 ≡ h .source .0
+  pub seq-width : fourth % 8 + 1 ≡ h .number .0
+  pub at : At s 0 (headWith fourth h filedata tosender n fs)
+
+-- as we write it
+pub written-opens : {s : List ℕ} (h : Head) (filedata tosender : Bool) (n : ℕ) (fs : List Field) → Fit h → At s 0 (headFields h filedata tosender n fs)
+    → Opens s h filedata tosender n fs
+written-opens h filedata tosender n fs f p =
+    let i = good-range (h .source .0) (f .id-width) in
+    let q = good-range (h .number .0) (f .seq-width) in
+    record {
+      fit = f;
+      fourth = byte3 (h .source .0) (h .number .0);
+      is-byte = omega arith;
+      id-width = omega arith;
+      seq-width = omega arith;
+      at = p;
+    }
+
+bit-read : (b k : ℕ) (t : Bool) → b / k % 2 ≡ flag t → bitIn b k ≡ t
+unfolding bitIn
+bit-read b k t e = rw e (eqb-flag t)
+
+module _ {s : List ℕ} {h : Head} {filedata tosender : Bool} {n : ℕ} {fs : List Field} (o : Opens s h filedata tosender n fs) where
+  flags : (flag filedata < 2) × (flag tosender < 2) × (flag (h .unacknowledged) < 2) × (flag (h .crc) < 2) × (flag (h .large) < 2)
+  flags = (flag-lt filedata, flag-lt tosender, flag-lt (h .unacknowledged), flag-lt (h .crc), flag-lt (h .large))
+
+  b0 : byte s 0 ≡ byte0 filedata tosender (h .unacknowledged) (h .crc) (h .large)
+  b0 = let z = flags in byte-at (o .at) (omega arith)
+
+  b3 : byte s 3 ≡ o .fourth
+  b3 = byte-at (past (past (o .at))) (o .is-byte)
+
+  pub version-read : versionIn s ≡ 1
+  unfolding versionIn
+  version-read = let z = flags in rw b0 (omega arith)
+
+  pub filedata-read : fileDataIn s ≡ filedata
+  unfolding fileDataIn
+  filedata-read = let z = flags in bit-read (byte s 0) 16 filedata (rw b0 (omega arith))
+
+  pub tosender-read : toSenderIn s ≡ tosender
+  unfolding toSenderIn
+  tosender-read = let z = flags in bit-read (byte s 0) 8 tosender (rw b0 (omega arith))
+
+  pub unacknowledged-read : unacknowledgedIn s ≡ h .unacknowledged
+  unfolding unacknowledgedIn
+  unacknowledged-read = let z = flags in bit-read (byte s 0) 4 (h .unacknowledged) (rw b0 (omega arith))
+
+  pub crc-read : crcIn s ≡ h .crc
+  unfolding crcIn
+  crc-read = let z = flags in bit-read (byte s 0) 2 (h .crc) (rw b0 (omega arith))
+
+  pub large-read : largeIn s ≡ h .large
+  unfolding largeIn
+  large-read = let z = flags in bit-read (byte s 0) 1 (h .large) (rw b0 (omega arith))
+
+  pub id-width-read : idWidthIn s ≡ h .source .0
+  unfolding idWidthIn
+  id-width-read = rw b3 (o .id-width)
+
+  pub seq-width-read : seqWidthIn s ≡ h .number .0
+  unfolding seqWidthIn
+  seq-width-read = rw b3 (o .seq-width)
+
+  field-read : n < 65536 → lengthIn s ≡ n
+  unfolding lengthIn
+  field-read l = num-at (past (o .at)) l
+
+  source-read : numAt s 4 (h .source .0) ≡ h .source .1
+  source-read = num-at (past (past (past (o .at)))) (o .fit .source)
+
+  number-read : numAt s (4 + h .source .0) (h .number .0) ≡ h .number .1
+  number-read = num-at (past (past (past (past (o .at))))) (o .fit .number)
+
+  destination-read : numAt s (4 + h .source .0 + h .number .0) (h .source .0) ≡ h .destination .1
+  destination-read = num-at (past (past (past (past (past (o .at)))))) (o .fit .destination)
+
+  pub head-read : headIn s ≡ h
+  unfolding headIn
+  head-read =
+      simp (unacknowledged-read, crc-read, large-read, id-width-read, seq-width-read, source-read, number-read, destination-read)
+      (ap (λ (w : ℕ). withDestination h (w, h .destination .1)) (sym (o .fit .one-width)))
+
+  pub h-read : hIn s ≡ H h
+  h-read = simp (id-width-read, seq-width-read)
+
+  -- what stands behind the header
+  pub behind-head : At s (H h) fs
+  behind-head =
+      let e : H h ≡ 4 + h .source .0 + h .number .0 + h .source .0 = omega arith in
+      rw e (past (past (past (past (past (past (o .at)))))))
+
+-- ---- the frame, over any body and direction
+
+length-trailer : (crc : Bool) (bs : List ℕ) → length (trailer crc bs) ≡ C crc
+unfolding trailer
+length-trailer true bs = length-be 2 (crc16 bs)
+length-trailer false bs = refl
+
+-- the last two bytes are a number, behind the bytes before them
+pub last-two : (bs : List ℕ) (v : ℕ) → v < 65536
+    → (take (length (bs ++ be 2 v) - 2) (bs ++ be 2 v) ≡ bs) × (numAt (bs ++ be 2 v) (length (bs ++ be 2 v) - 2) 2 ≡ v)
+unfolding numAt part be
+last-two bs v h =
+    let e : length (bs ++ be 2 v) - 2 ≡ length bs = simp (length-append, length-be, add-sub-cancel) in
+    (rw e (take-append-seam bs (be 2 v)), rw (e, drop-append-seam) (num-be 2 v h))
+
+crc-over : (bs : List ℕ) (crc : Bool) → crc ≡ true
+    → let s = bs ++ trailer crc bs in numAt s (length s - 2) 2 ≡ crc16 (take (length s - 2) s)
+unfolding trailer
+crc-over bs true e = let t = last-two bs (crc16 bs) (crc16-lt bs) in t .1 ∙ ap crc16 (sym (t .0))
+crc-over bs false e = absurd (false≢true e)
+
+-- bytes that are a PDU: header, body, and the CRC over what stands before it
+pub record Frames (s : List ℕ) (h : Head) (filedata tosender : Bool) (body : List ℕ) : Type 0 where
+  pub front : List ℕ
+  pub closes : front ++ trailer (h .crc) front ≡ s
+  pub opens : Opens s h filedata tosender (length body + C (h .crc)) (raw body ∷ raw (trailer (h .crc) front) ∷ [])
+  pub short : length body + C (h .crc) < 65536
+
+module _ {s : List ℕ} {h : Head} {filedata tosender : Bool} {body : List ℕ} (p : Frames s h filedata tosender body) where
+  pub length-read : lengthIn s ≡ length body + C (h .crc)
+  length-read = field-read (p .opens) (p .short)
+
+  whole : length s ≡ H h + (length body + C (h .crc))
+  whole = whole-length (p .opens .at) ∙ rw (length-trailer (h .crc) (p .front)) (omega arith)
+
+  end-read : length s ≡ endIn s
+  end-read = simp (h-read (p .opens), length-read, whole)
+
+  pub body-end-read : bodyEnd s ≡ H h + length body
+  body-end-read = simp (h-read (p .opens), length-read, crc-read (p .opens)) (omega arith)
+
+  pub body-read : bodyIn s ≡ body
+  unfolding bodyIn
+  body-read =
+      let e : H h + length body - H h ≡ length body = omega arith in
+      rw (body-end-read, h-read (p .opens), e) (part-at (behind-head (p .opens)))
+
+  crc-agrees : h .crc ≡ true → crcAgrees s ≡ true
+  unfolding crcAgrees
+  crc-agrees e = rw (← end-read) (eq-eqb _ _ (rw (p .closes) at (crc-over (p .front) (h .crc) e)))
+
+  pub well-framed-read : wellFramed s ≡ true
+  unfolding wellFramed
+  well-framed-read =
+      let w = whole in
+      let a : ltb (length s) 4 ≡ false = le-ltb (length s) 4 (omega arith) in
+      let i = ap goodWidth (id-width-read (p .opens)) ∙ p .opens .fit .id-width in
+      let q = ap goodWidth (seq-width-read (p .opens)) ∙ p .opens .fit .seq-width in
+      simp (a, eq-eqb _ _ (version-read (p .opens)), i, q, eq-eqb _ _ end-read, crc-read (p .opens))
+      (cases (λ (b : Bool). b ≡ true) (h .crc) (pick (ltb (lengthIn s) 2) false (crcAgrees s)) true
+      (λ c. let z = ap C c in
+      let b : ltb (lengthIn s) 2 ≡ false = rw length-read (le-ltb (length body + C (h .crc)) 2 (omega arith)) in
+      rw (b, crc-agrees c) refl) (λ c. refl))
+
+-- ---- what we write is a PDU
+
+-- what the CRC is over
+abbrev front : Head → Bool → Bool → List ℕ → List ℕ
+front h filedata tosender body = headBytes h filedata tosender (length body + C (h .crc)) ++ body
+
+pdu-at : (h : Head) (filedata tosender : Bool) (body : List ℕ)
+    → At (pduBytes h filedata tosender body) 0
+    (headFields h filedata tosender (length body + C (h .crc)) (raw body ∷ raw (trailer (h .crc) (front h filedata tosender body)) ∷ []))
+unfolding pduBytes headBytes
+pdu-at h filedata tosender body = record { holds = simp (append-assoc, append-nil) }
+
+pub length-pdu : (h : Head) (filedata tosender : Bool) (body : List ℕ) → length (pduBytes h filedata tosender body) ≡ H h + (length body + C (h .crc))
+length-pdu h filedata tosender body =
+    whole-length (pdu-at h filedata tosender body) ∙ rw (length-trailer (h .crc) (front h filedata tosender body)) (omega arith)
+
+pub pdu-opens : (h : Head) (filedata tosender : Bool) (body : List ℕ) → Fit h
+    → Opens (pduBytes h filedata tosender body) h filedata tosender (length body + C (h .crc)) (raw body ∷ raw (trailer (h .crc) (front h filedata tosender body)) ∷ [])
+pdu-opens h filedata tosender body f = written-opens h filedata tosender _ _ f (pdu-at h filedata tosender body)
+
+pub pdu-frames : (h : Head) (filedata tosender : Bool) (body : List ℕ) → Fit h → length body + C (h .crc) < 65536
+    → Frames (pduBytes h filedata tosender body) h filedata tosender body
+unfolding pduBytes
+pdu-frames h filedata tosender body f l =
+    record { front = front h filedata tosender body; closes = refl; opens = pdu-opens h filedata tosender body f; short = l }
+
+decode-read : (h : Head) (filedata : Bool) (body : List ℕ) → Fit h → length body + C (h .crc) < 65536
+    → decode (pduBytes h filedata false body) ≡ withHead h (saidIn filedata (h .large) body)
+unfolding decode
+decode-read h filedata body f l =
+    let p = pdu-frames h filedata false body f l in
+    simp (
+      well-framed-read p,
+      tosender-read (p .opens),
+      head-read (p .opens),
+      filedata-read (p .opens),
+      large-read (p .opens),
+      body-read p,
+    )
+
+-- ---- the bodies, each of any bytes that hold its layout
+
+metadata-read : {s : List ℕ} (large : Bool) {closure : Bool} {k n : ℕ} {a b : List ℕ} → At s 0 (layout large (metadata closure k n a b))
+    → Sayable large (metadata closure k n a b) → metadataIn large s ≡ some (metadata closure k n a b)
+unfolding metadataIn
+metadata-read {s} large {closure} {k} {n} {a} {b} p h =
+    let z = flag-lt closure in
+    let p3 = past (past (past p)) in
+    let p5 = past (past p3) in
+    let flags : byte s 1 ≡ flag closure * 64 + k = byte-at (past p) (omega arith) in
+    let la : byte s (2 + F large) ≡ length a = byte-at p3 (h .2) in
+    let lb : byte s (2 + F large + 1 + length a) ≡ length b = byte-at p5 (h .3) in
+    let e : length s ≡ 4 + F large + length a + length b = whole-length p ∙ omega arith in
+    let q : bitIn (flag closure * 64 + k) 64 ≡ closure = bit-read (flag closure * 64 + k) 64 closure (omega arith) in
+    let r : (flag closure * 64 + k) % 16 ≡ k = omega arith in
+    simp (la, lb, flags, q, r, eq-eqb _ _ e, num-at (past (past p)) (h .1), part-at (past p3), part-at (past p5))
+
+data-read : {s : List ℕ} (large : Bool) {o : ℕ} {bs : List ℕ} → At s 0 (layout large (fileData o bs)) → o < 2 ^ (8 * F large)
+    → dataIn large s ≡ some (fileData o bs)
+unfolding dataIn
+data-read {s} large {o} {bs} p h =
+    let e : length s ≡ F large + (length bs + 0) = whole-length p in
+    let l : leb (F large) (length s) ≡ true = le-leb (F large) (length s) (omega arith) in
+    let q : drop (F large) s ≡ bs = rw zero-add at (rest-at (past p)) in
+    simp (l, num-at p h, q)
+
+eof-read : {s : List ℕ} (large : Bool) {c k n : ℕ} → At s 0 (layout large (eof c k n)) → Sayable large (eof c k n) → eofIn large s ≡ some (eof c k n)
+unfolding eofIn
+eof-read {s} large {c} {k} {n} p h =
+    let b : byte s 1 ≡ c * 16 = byte-at (past p) (omega arith) in
+    let q : c * 16 / 16 ≡ c = omega arith in
+    let e : length s ≡ 6 + F large = whole-length p ∙ omega arith in
+    simp (eq-eqb _ _ e, b, q, num-at (past (past p)) (h .1), num-at (past (past (past p))) (h .2))
+
+ack-read : {s : List ℕ} (large : Bool) {c t : ℕ} → At s 0 (layout large (ackFinished c t)) → Sayable large (ackFinished c t)
+    → ackFinishedIn s ≡ some (ackFinished c t)
+unfolding ackFinishedIn
+ack-read {s} large {c} {t} p h =
+    let a : byte s 1 ≡ 0x51 = byte-at (past p) (omega arith) in
+    let b : byte s 2 ≡ c * 16 + t = byte-at (past (past p)) (omega arith) in
+    let q : (c * 16 + t) / 16 ≡ c = omega arith in
+    let r : (c * 16 + t) % 4 ≡ t = omega arith in
+    let e : length s ≡ 3 = whole-length p in
+    simp (e, a, b, q, r)
+
+said-read : {s : List ℕ} (large : Bool) (m : Said) → At s 0 (layout large m) → Sayable large m → saidIn (isFileData m) large s ≡ some m
+unfolding saidIn
+said-read {s} large (metadata closure k n a b) p h = let e : byte s 0 ≡ 7 = byte-at p (omega arith) in rw e (metadata-read large p h)
+said-read {s} large (fileData o bs) p h = data-read large p (h .0)
+said-read {s} large (eof c k n) p h = let e : byte s 0 ≡ 4 = byte-at p (omega arith) in rw e (eof-read large p h)
+said-read {s} large (ackFinished c t) p h = let e : byte s 0 ≡ 6 = byte-at p (omega arith) in rw e (ack-read large p h)
+
+-- ---- the laws
+
+-- the length of the data field fits its two bytes
+length-body : (h : Head) (m : Said) → Sayable (h .large) m → length (bodyBytes (h .large) m) + C (h .crc) < 65536
+unfolding bodyBytes
+length-body h (metadata closure k n a b) y = let z = flag-lt (h .crc) in let w = flag-lt (h .large) in simp length-wire (omega arith)
+length-body h (fileData o bs) y = let z = flag-lt (h .crc) in let w = flag-lt (h .large) in simp length-wire (omega arith)
+length-body h (eof c k n) y = let z = flag-lt (h .crc) in let w = flag-lt (h .large) in simp length-wire (omega arith)
+length-body h (ackFinished c t) y = let z = flag-lt (h .crc) in simp length-wire (omega arith)
+
+pub round-trip : RoundTrip
+unfolding encode bodyBytes
+round-trip h m f y =
+    decode-read h (isFileData m) (bodyBytes (h .large) m) f (length-body h m y) ∙ ap (withHead h) (said-read (h .large) m (at-start _ _ refl) y)
+
+pub same-bytes : SameBytes
+same-bytes h g m n f k y z e =
+    let a = round-trip h m f y in
+    let b = round-trip g n k z in
+    let p : _≡_ {A = Pdu} (record { head = h; said = m }) (record { head = g; said = n }) = cc (ap decode e) in
+    (ap (λ (x : Pdu). x .head) p, ap (λ (x : Pdu). x .said) p)
+
+pub crc-checks : CrcChecks
+unfolding encode pduBytes
+crc-checks h m f e = crc-over (front h (isFileData m) false (bodyBytes (h .large) m)) (h .crc) e
+
+pub length-encode : (h : Head) (m : Said) → length (encode h m) ≡ pduLength h m
+unfolding encode pduLength bodyBytes
+length-encode h m =
+    length-pdu h (isFileData m) false (wire (layout (h .large) m)) ∙ rw (length-wire (layout (h .large) m)) (omega arith)
+
+pub length-agrees : LengthAgrees
+unfolding encode
+length-agrees h m f y =
+    let b = bodyBytes (h .large) m in
+    (length-encode h m, rw (length-read (pdu-frames h (isFileData m) false b f (length-body h m y))) (sym (length-pdu h (isFileData m) false b)))
+
+pub headers-differ : HeadersDiffer
+unfolding headBytes
+headers-differ h g a b c d n k f q l j i w e =
+    let o = written-opens h a b n [] f (at-start (headBytes h a b n) _ refl) in
+    let p = written-opens g c d k [] q (at-start (headBytes g c d k) _ refl) in (
+      sym (head-read o) ∙ ap headIn e ∙ head-read p,
+      sym (filedata-read o) ∙ ap fileDataIn e ∙ filedata-read p,
+      sym (tosender-read o) ∙ ap toSenderIn e ∙ tosender-read p,
+      sym (field-read o l) ∙ ap lengthIn e ∙ field-read p j,
+    )
+
+-- ---- single questions of an observer
+
+-- an EOF is known by its code, whatever its values
+abbrev pub isEofSaid : Said → Bool
+isEofSaid (metadata closure k n a b) = false
+isEofSaid (fileData o bs) = false
+isEofSaid (eof c k n) = true
+isEofSaid (ackFinished c t) = false
+
+directive : (h : Head) (v : ℕ) (fs : List Field) → v < 256 → Fit h → isEofIn (pduBytes h false false (wire (nat 1 v ∷ fs))) ≡ eqb v 4
+unfolding isEofIn
+directive h v fs l f =
+    let o = pdu-opens h false false (wire (nat 1 v ∷ fs)) f in
+    let e = byte-at (opened (nat 1 v ∷ fs) (behind-head o)) l in
+    rw (filedata-read o, h-read o, e)
+
+abbrev behind : List Field → List Field
+behind [] = []
+behind (f ∷ fs) = fs
+
+pub eof-seen : (h : Head) (m : Said) → Fit h → isEofIn (encode h m) ≡ isEofSaid m
+unfolding encode bodyBytes isEofIn
+eof-seen h (metadata closure k n a b) f = directive h 7 (behind (layout (h .large) (metadata closure k n a b))) (omega arith) f
+eof-seen h (fileData o bs) f = rw (filedata-read (pdu-opens h true false (bodyBytes (h .large) (fileData o bs)) f))
+eof-seen h (eof c k n) f = directive h 4 (behind (layout (h .large) (eof c k n))) (omega arith) f
+eof-seen h (ackFinished c t) f = directive h 6 (behind (layout (h .large) (ackFinished c t))) (omega arith) f
+
+pub file-data : (h : Head) (o : ℕ) (bs : List ℕ) → Fit h → Sayable (h .large) (fileData o bs) → fileDataOf (encode h (fileData o bs)) ≡ some (o, bs)
+unfolding fileDataOf
+file-data h o bs f y = rw (round-trip h (fileData o bs) f y)
+
+-- the large flag's rule is enough: a size fits its field
+pub size-fits : (S : ℕ) → S < 2 ^ 64 → S < 2 ^ (8 * F (isLarge S))
+unfolding isLarge
+size-fits S h = go (ltb 4294967295 S) refl
+  where
+    go : (t : Bool) → ltb 4294967295 S ≡ t → S < 2 ^ (8 * F t)
+    go true e = h
+    go false e = let l = ltb-false 4294967295 S e in omega arith

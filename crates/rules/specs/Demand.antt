@@ -1,0 +1,150 @@
+-- The third demand, on bytes: which PDUs leave after an accepted put, in which step the EOF leaves and what it says. Proof: proofs/Demand.antt.
+-- To read it: (x : A) → .. is "for every x", P → Q "if P, then Q", P × Q "P and Q", P ↔ Q "exactly if"; x .f is the field f of x;
+-- x ∷ l is a list that begins with x, ++ joins two; `map f l` is f of each.
+-- Assumes nothing.
+use mathlib.Core.Path.{_≡_}
+use mathlib.Core.Logic.{_↔_}
+use mathlib.Core.Bool.{Bool, true, false}
+use mathlib.Core.List.{List, [], _∷_, _++_, map}
+use mathlib.Core.Option.{Option, none, some}
+use Prim.Native.Nat.{ℕ, suc, _+_, _^_, _<_}
+use lib.Dec.{eqb}
+use lib.ListN.{length, take, drop}
+use Rattle.basis.specs.Pick.{pick}
+use Rattle.basis.specs.Bytes.{Bytes}
+use Rattle.rules.specs.Numbers.{segmentLength}
+use Rattle.rules.specs.Checksum.{sumOf}
+use Rattle.rules.specs.Layout.{Said, metadata, fileData, eof, ackFinished, Pdu}
+use Rattle.rules.specs.Decoding.{withHead, decode, fileDataOf}
+use Rattle.rules.specs.Put.{entryOf, chosen, headOf, putSpec}
+use Rattle.rules.specs.Tiles.{ceil, tiles}
+use Rattle.rules.specs.Runs.{Call, Event, made, trace, Lends, steps, isEof, BeforeEof, NoPut, owed, R, firstPass, repairs}
+use Rattle.rules.specs.declared.TransactionSeqNum.{TransactionSeqNum}
+use Rattle.rules.specs.declared.Head.{Head}
+use Rattle.rules.specs.declared.RemoteEntityConfig.{RemoteEntityConfig}
+use Rattle.rules.specs.declared.LocalEntityConfig.{LocalEntityConfig}
+use Rattle.rules.specs.declared.PutRequest.{PutRequest}
+use Rattle.rules.specs.declared.Sending.{Sending}
+use Rattle.rules.specs.declared.Sending.the-variants.{Nothing as NoPdu, Metadata as MetadataPdu, FileData, Eof as EofPdu, AckFinished}
+use Rattle.rules.specs.declared.Answer.the-variants.{Accepted}
+use Rattle.rules.specs.declared.State.{State}
+
+-- ---- the transfer that a put asks for, from the put's arguments alone (n: the sequence number)
+
+pub record Transfer : Type 0 where
+  pub head : Head
+  pub closure : Bool
+  pub type : ℕ
+  pub segment : ℕ
+  pub source : List ℕ
+  pub destination : List ℕ
+  pub file : List ℕ
+
+abbrev pub transferBy : RemoteEntityConfig → PutRequest → Head → List ℕ → List ℕ → List ℕ → Transfer
+transferBy e q h source destination file =
+    record {
+      head = h;
+      closure = pick (h .unacknowledged) (chosen (q .closure) (e .closure)) false;
+      type = e .checksum;
+      segment = segmentLength (e .maxsegment) (e .maxpacket) h;
+      source = source;
+      destination = destination;
+      file = file;
+    }
+
+abbrev pub transferOf : LocalEntityConfig → PutRequest → TransactionSeqNum → List ℕ → List ℕ → List ℕ → Transfer
+transferOf c q n source destination file =
+    let e = entryOf c (q .destination .1) in
+    transferBy e q (headOf c e q n (length file)) source destination file
+
+-- what a PDU of the transfer says; this is what its bytes have to decode to
+abbrev pub saidOf : Transfer → Sending → Option Said
+saidOf w NoPdu = none
+saidOf w MetadataPdu = some (metadata (w .closure) (w .type) (length (w .file)) (w .source) (w .destination))
+saidOf w (FileData o n) = some (fileData o (take n (drop o (w .file))))
+saidOf w (EofPdu e) = some (eof (e .condition) (e .sum) (e .size))
+saidOf w (AckFinished c) = some (ackFinished c 1)
+
+abbrev pub meant : Transfer → Sending → Option Pdu
+meant w d = withHead (w .head) (saidOf w d)
+
+-- all that is sent once, besides the EOF: the metadata, then the file from 0 on in pieces of L
+abbrev pub planned : Transfer → List Sending
+planned w = MetadataPdu ∷ tiles (w .segment) 0 (length (w .file))
+
+-- "EOF NoError, S, checksum"
+abbrev pub lastly : Transfer → Sending
+lastly w = EofPdu (record { condition = 0; sum = sumOf (w .type) (w .file); size = length (w .file) })
+
+-- ---- an observer of the link
+
+-- xs is a front part of ys
+abbrev pub Front : {A : Type 0} → List A → List A → Type 0
+Front {A} xs ys = (rest : List A) × (xs ++ rest ≡ ys)
+
+-- a piece of file data must begin where the one before ended; other PDUs are passed over
+abbrev pub onto : Option (ℕ × List ℕ) → ℕ → ℕ
+onto none at = at
+onto (some d) at = at + length (d .1)
+
+abbrev pub joinedTo : Bool → List ℕ → Option (List ℕ) → Option (List ℕ)
+joinedTo true d none = none
+joinedTo true d (some l) = some (d ++ l)
+joinedTo false d l = none
+
+abbrev pub placed : Option (ℕ × List ℕ) → ℕ → Option (List ℕ) → Option (List ℕ)
+placed none at l = l
+placed (some d) at l = joinedTo (eqb (d .0) at) (d .1) l
+
+-- the file data of PDUs joined, if the first piece begins at `at` and each other where the one before ended
+unfoldable pub stretch : ℕ → List (List ℕ) → Option (List ℕ)
+stretch at [] = some []
+stretch at (b ∷ bs) = placed (fileDataOf b) at (stretch (onto (fileDataOf b) at) bs)
+
+-- ---- the demand. es are the events since the put, up to any moment before the EOF; L is w .segment, S is length (w .file)
+
+-- "the unrefused step numbered 2 + ceil(S/L) + R"; R counts the NAKs accepted so far
+abbrev pub eofStep : Transfer → List Event → ℕ
+eofStep w es = 2 + ceil (length (w .file)) (w .segment) + R (w .segment) es
+
+-- before the EOF
+pub record SoFar (w : Transfer) (es : List Event) : Type 0 where
+  -- the EOF's step is still to come
+  pub early : steps es < eofStep w es
+  -- each unrefused step has emitted one PDU
+  pub one-each : steps es ≡ length (firstPass (w .segment) 0 es) + length (repairs (w .segment) 0 es)
+  -- those not owed to a NAK, read by the other side, are the first of the metadata and the file's tiles
+  pub tiling : Front (map decode (firstPass (w .segment) 0 es)) (map (meant w) (planned w))
+  -- those owed, read, are the first of the answers to the requests, in order
+  pub answering : Front (map decode (repairs (w .segment) 0 es)) (map (meant w) (owed (w .segment) es))
+  -- no other put was accepted
+  pub no-put : NoPut es
+
+-- when the EOF d leaves
+pub record AtEof (w : Transfer) (es : List Event) (d : List ℕ) : Type 0 where
+  -- read, it says NoError, the file's checksum and S
+  pub says : decode d ≡ meant w (lastly w)
+  -- the metadata and the tiles have all left
+  pub tiled : map decode (firstPass (w .segment) 0 es) ≡ map (meant w) (planned w)
+  -- and their data, each piece behind the one before, are the file
+  pub bytes : stretch 0 (firstPass (w .segment) 0 es) ≡ some (w .file)
+  -- all that is owed has left
+  pub answered : map decode (repairs (w .segment) 0 es) ≡ map (meant w) (owed (w .segment) es)
+
+-- The next unrefused step emits d: an EOF exactly if the step has that number.
+pub record AtStep (w : Transfer) (es : List Event) (d : Option (List ℕ)) : Type 0 where
+  pub when : (isEof d ≡ true) ↔ (suc (steps es) ≡ eofStep w es)
+  pub what : isEof d ≡ true → (b : List ℕ) × (d ≡ some b) × AtEof w es b
+
+-- PROMISE third-demand: after an accepted put of a file on any handler, fresh or used, over any calls whose steps lend this file: at every place of
+-- the run with no EOF before it and no cancel or reset (es before it, fs behind it), what stands above. `decode` is the other side's reading, by
+-- document 01's layouts and not by the writer's definitions.
+abbrev pub ThirdDemand : Type 0
+ThirdDemand =
+    (h : State) (c : LocalEntityConfig) (q : PutRequest) (source destination file : List ℕ)
+    → Bytes file → length file < 2 ^ 64
+    → putSpec h c q source destination (length file) .answer ≡ Accepted
+    → (cs : List Call) → Lends file cs
+    → (es fs : List Event) → trace cs (putSpec h c q source destination (length file) .state) ≡ es ++ fs → BeforeEof es
+    → let w = transferOf c q (h .number) source destination file in
+    SoFar w es × ((d : Option (List ℕ)) (gs : List Event) → fs ≡ made d ∷ gs → AtStep w es d)

@@ -1,0 +1,54 @@
+// The sending handler: six calls over one state that goes in by value and comes back by value. Each takes any state value, any bytes and any
+// numbers, in any order, and returns; its contract is one relation of crate `rules` and nothing beside it, so what is proved of the relations holds of
+// these calls. The parts stand in crates of their own: source_queue, source_put, source_deliver, source_step.
+ghost use Rattle.rules.specs.Calls.{PutMeets, DeliverMeets, StepMeets, CancelMeets, ResetMeets, NewMeets};
+use rules::Cancelled;
+use rules::Done;
+use rules::EntityId;
+use rules::LocalEntityConfig;
+use rules::PutRequest;
+use rules::State;
+use rules::Stepped;
+use rules::TransactionSeqNum;
+
+// A handler whose first put takes this number.
+pub fn new(number: TransactionSeqNum) -> State
+    ensures { λ r. ⌜ NewMeets number r ⌝ }
+{
+    source_step::new(number)
+}
+
+// Puts a file of `size` bytes: refusals 1 to 8, or SendingMetadata.
+pub fn put(s: State, c: LocalEntityConfig, q: PutRequest, source: &[u8], destination: &[u8], size: u64) -> Done
+    ensures { λ r. ⌜ PutMeets s c q (now (source .entry)) (now (destination .entry)) size r ⌝ }
+{
+    source_put::put(s, c, q, source, destination, size)
+}
+
+// Takes a PDU from the link: refusals 20, 21, 23, 22, 24, 25, or what the table of steps says.
+pub fn deliver(s: State, bytes: &[u8]) -> Done
+    ensures { λ r. ⌜ DeliverMeets s (now (bytes .entry)) r ⌝ }
+{
+    source_deliver::deliver(s, bytes)
+}
+
+// Makes one step over the lent file and emits at most one PDU, in front of `out`: refusals 30 and 31, or items 1 to 9.
+pub fn step(s: State, file: &[u8], expired: bool, out: &mut [u8]) -> Stepped
+    ensures { λ r. ⌜ StepMeets s (now (file .entry)) expired (now (out .entry)) (now (out .exit)) r ⌝ }
+{
+    source_step::step(s, file, expired, out)
+}
+
+// The user's cancel: yes or no.
+pub fn cancel(s: State, source: EntityId, number: TransactionSeqNum) -> Cancelled
+    ensures { λ r. ⌜ CancelMeets s source number r ⌝ }
+{
+    source_step::cancel(s, source, number)
+}
+
+// Idle, with the sequence number kept.
+pub fn reset(s: State) -> State
+    ensures { λ r. ⌜ ResetMeets s r ⌝ }
+{
+    source_step::reset(s)
+}

@@ -1,0 +1,25 @@
+// The two answers to a delivery.
+use rules::Answer;
+use rules::Done;
+use rules::Refusal;
+use rules::State;
+ghost use mathlib.Core.Path.{_≡_};
+ghost use Rattle.rules.specs.Deliver.{refused as refusedIs, accepted as acceptedIs};
+
+pub fn refused(s: State, why: Refusal) -> Done
+    ensures { λ r. ⌜ r ≡ refusedIs s why ⌝ }
+{
+    Done {
+        answer: Answer::Refused(why),
+        state: s,
+    }
+}
+
+pub fn accepted(s: State) -> Done
+    ensures { λ r. ⌜ r ≡ acceptedIs s ⌝ }
+{
+    Done {
+        answer: Answer::Accepted,
+        state: s,
+    }
+}

@@ -1,0 +1,130 @@
+// A delivery: what the bytes say, then what the table of steps answers. Any state and any bytes are taken. The refusals are tried in
+// the order 20, 21, 23, 22, 24, 25, and a refused delivery changes nothing.
+mod answer;
+mod moved;
+mod nak;
+mod table;
+
+use crate::answer::accepted;
+use crate::answer::refused;
+use crate::moved::moved_by;
+use crate::nak::handle_nak_pdu;
+use crate::table::verdict_of;
+use pdu_read::directive::read_body;
+use pdu_read::header::read_header;
+use rules::Body;
+use rules::Done;
+use rules::Frame;
+use rules::Framed;
+use rules::Head;
+use rules::Meaning;
+use rules::Refusal;
+use rules::State;
+use rules::TransactionStep;
+use rules::Verdict;
+ghost use mathlib.Core.Path.{_≡_};
+ghost use Rattle.rules.specs.States.{isIdle};
+ghost use Rattle.rules.specs.Deliver.{sameTransaction, verdictOf, byVerdict, heard as heardIs, byBody};
+ghost use Rattle.rules.specs.Calls.{DeliverMeets};
+ghost use Rattle.source_deliver.specs.Asked.{askedCount};
+
+// ---- the table at work
+
+// How many requests a PDU makes: none if it is no NAK.
+fn asked_count(m: Meaning) -> usize
+    ensures { λ r. ⌜ r ≡ askedCount m ⌝ }
+{
+    match m {
+        Meaning::Finished(_) => 0,
+        Meaning::AckOfEof => 0,
+        Meaning::Nak(n) => n,
+        Meaning::KeepAlive(_) => 0,
+    }
+}
+
+fn by_verdict(s: State, bytes: &[u8], f: Frame, m: Meaning, v: Verdict) -> Done
+    ensures { λ r. ⌜ r ≡ byVerdict s (now (bytes .entry)) f m v ⌝ }
+{
+    match v {
+        Verdict::Enqueue => handle_nak_pdu(s, bytes, f, asked_count(m)),
+        Verdict::Move => accepted(moved_by(s, m)),
+        Verdict::Refuse => refused(s, Refusal::UnexpectedPdu),
+        Verdict::NoEffect => accepted(s),
+    }
+}
+
+fn by_table(s: State, bytes: &[u8], f: Frame, m: Meaning) -> Done
+    ensures { λ r. ⌜ r ≡ byVerdict s (now (bytes .entry)) f m (verdictOf (s .step) m) ⌝ }
+{
+    let step = s.step;
+    let v = verdict_of(step, m);
+    by_verdict(s, bytes, f, m, v)
+}
+
+// ---- whose PDU it is
+
+fn is_idle(step: TransactionStep) -> bool
+    ensures { λ r. ⌜ r ≡ isIdle step ⌝ }
+{
+    match step {
+        TransactionStep::Idle => true,
+        TransactionStep::SendingMetadata => false,
+        TransactionStep::SendingFileData => false,
+        TransactionStep::SendingEof => false,
+        TransactionStep::WaitingForEofAck => false,
+        TransactionStep::WaitingForFinished => false,
+        TransactionStep::Closing => false,
+    }
+}
+
+// Compared by value, whatever the widths.
+fn same_transaction(a: Head, b: Head) -> bool
+    ensures { λ r. ⌜ r ≡ sameTransaction a b ⌝ }
+{
+    if a.source.1 != b.source.1 {
+        return false;
+    }
+    if a.number.1 != b.number.1 {
+        return false;
+    }
+    a.destination.1 == b.destination.1
+}
+
+// Idle has no transaction to compare with.
+fn heard(s: State, bytes: &[u8], f: Frame, m: Meaning) -> Done
+    ensures { λ r. ⌜ r ≡ heardIs s (now (bytes .entry)) f m ⌝ }
+{
+    let step = s.step;
+    if is_idle(step) {
+        return by_table(s, bytes, f, m);
+    }
+    if same_transaction(s.fixed.head, f.head) {
+        return by_table(s, bytes, f, m);
+    }
+    refused(s, Refusal::OtherTransaction)
+}
+
+// ---- what the bytes say
+
+fn by_body(s: State, bytes: &[u8], f: Frame, b: Body) -> Done
+    ensures { λ r. ⌜ r ≡ byBody s (now (bytes .entry)) f b ⌝ }
+{
+    match b {
+        Body::Malformed => refused(s, Refusal::Malformed),
+        Body::CantProcess => refused(s, Refusal::CantProcessPacketType),
+        Body::Means(m) => heard(s, bytes, f, m),
+    }
+}
+
+pub fn deliver(s: State, bytes: &[u8]) -> Done
+    ensures { λ r. ⌜ DeliverMeets s (now (bytes .entry)) r ⌝ }
+{
+    let framed = read_header(bytes);
+    match framed {
+        Framed::Malformed => refused(s, Refusal::Malformed),
+        Framed::Whole(f) => {
+            let b = read_body(bytes, f);
+            by_body(s, bytes, f, b)
+        }
+    }
+}

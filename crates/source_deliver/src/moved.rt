@@ -1,0 +1,67 @@
+// What a PDU moves. An enum field is never stored to: the state is made anew.
+use rules::FinishedParams;
+use rules::Meaning;
+use rules::Queue;
+use rules::SegmentRequest;
+use rules::State;
+use rules::TransactionStep;
+ghost use mathlib.Core.Path.{_≡_};
+ghost use Rattle.rules.specs.States.{toStep};
+ghost use Rattle.rules.specs.Deliver.{finishedOf, movedBy};
+ghost use Rattle.rules.specs.declared.TransactionStep.the-variants.{WaitingForFinished};
+
+fn to_step(s: State, step: TransactionStep) -> State
+    ensures { λ r. ⌜ r ≡ toStep s step ⌝ }
+{
+    let number = s.number;
+    let fixed = s.fixed;
+    let names = s.names;
+    let file = s.file;
+    let queue = s.queue;
+    let marks = s.marks;
+    State {
+        number,
+        step,
+        fixed,
+        names,
+        file,
+        queue,
+        marks,
+    }
+}
+
+// Of EOF.
+fn handle_ack_pdu(s: State) -> State
+    ensures { λ r. ⌜ r ≡ toStep s WaitingForFinished ⌝ }
+{
+    to_step(s, TransactionStep::WaitingForFinished)
+}
+
+// The queue and an owed EOF are dropped.
+fn handle_finished_pdu(s: State, p: FinishedParams) -> State
+    ensures { λ r. ⌜ r ≡ finishedOf s p ⌝ }
+{
+    let queue = Queue {
+        places: [SegmentRequest { start: 0, end: 0 }; 64],
+        count: 0,
+    };
+    let mut marks = s.marks;
+    marks.owed = false;
+    marks.finished = p;
+    let mut t = s;
+    t.queue = queue;
+    t.marks = marks;
+    to_step(t, TransactionStep::Closing)
+}
+
+// A NAK and a Keep Alive move nothing.
+pub fn moved_by(s: State, m: Meaning) -> State
+    ensures { λ r. ⌜ r ≡ movedBy s m ⌝ }
+{
+    match m {
+        Meaning::Finished(p) => handle_finished_pdu(s, p),
+        Meaning::AckOfEof => handle_ack_pdu(s),
+        Meaning::Nak(_) => s,
+        Meaning::KeepAlive(_) => s,
+    }
+}

@@ -1,0 +1,66 @@
+-- The first three tests of a put: what comes behind them, and that an accepted put has a sequence number of a good width.
+-- Assumes nothing.
+use mathlib.Core.Path.{_≡_, refl}
+use mathlib.Core.Bool.{Bool, true, false}
+use mathlib.Core.List.{List}
+use Prim.Native.Nat.{ℕ, _*_, _^_}
+use native.Mathlib.Omega.{arith}
+use lib.Dec.{ltb}
+use Rattle.basis.specs.Pick.{pick}
+use Rattle.basis.proofs.Pick.{pick-t}
+use Rattle.rules.specs.Numbers.{goodWidth, fits}
+use Rattle.rules.specs.States.{isIdle}
+use Rattle.rules.specs.Put.{idsFit, isFound, entryOf, headOf, entryAnswer, putAnswer}
+use Rattle.rules.specs.declared.State.{State}
+use Rattle.rules.specs.declared.EntityId.{EntityId}
+use Rattle.rules.specs.declared.TransactionSeqNum.{TransactionSeqNum}
+use Rattle.rules.specs.declared.LocalEntityConfig.{LocalEntityConfig}
+use Rattle.rules.specs.declared.PutRequest.{PutRequest}
+use Rattle.rules.specs.declared.Refusal.{Refusal}
+use Rattle.rules.specs.declared.Refusal.the-variants.{AlreadyBusy, BadIdWidth, NoRemoteCfgFound}
+use Rattle.rules.specs.declared.Answer.{Answer}
+use Rattle.rules.specs.declared.Answer.the-variants.{Accepted, Refused}
+
+-- a test that a refusal hangs on
+passed : (b : Bool) (a : Answer) (r : Refusal) → pick b a (Refused r) ≡ Accepted → (b ≡ true) × (a ≡ Accepted)
+passed true a r e = (refl, e)
+passed false a r e = let z : _≡_ {A = ℕ} 0 1 = cc in absurd (omega arith)
+
+both : (b d : Bool) → pick b d false ≡ true → (b ≡ true) × (d ≡ true)
+both true d e = (refl, e)
+both false d e = let z : _≡_ {A = ℕ} 0 1 = cc in absurd (omega arith)
+
+fits-width : (w v : ℕ) → fits w v ≡ true → goodWidth w ≡ true
+unfolding fits
+fits-width w v e = both (goodWidth w) (ltb v (2 ^ (8 * w))) e .0
+
+ids-width : (a b : EntityId) (n : TransactionSeqNum) → idsFit a b n ≡ true → goodWidth (n .0) ≡ true
+unfolding idsFit
+ids-width a b n e =
+    let f = fits (n .0) (n .1) in
+    fits-width (n .0) (n .1) (both (fits (b .0) (b .1)) f (both (fits (a .0) (a .1)) (pick (fits (b .0) (b .1)) f false) e .1) .1)
+
+module _ (s : State) (c : LocalEntityConfig) (q : PutRequest) (source destination : List ℕ) (S : ℕ) where
+  abbrev over : Answer
+  over =
+      let e = entryOf c (q .destination .1) in
+      entryAnswer e (c .actions) (headOf c e q (s .number) S) source destination
+
+  abbrev sought : Answer
+  sought = pick (isFound c (q .destination .1)) over (Refused NoRemoteCfgFound)
+
+  abbrev fitting : Answer
+  fitting = pick (idsFit (c .id) (q .destination) (s .number)) sought (Refused BadIdWidth)
+
+  -- behind the first three tests the entry answers
+  pub to-entry : isIdle (s .step) ≡ true → idsFit (c .id) (q .destination) (s .number) ≡ true → isFound c (q .destination .1) ≡ true
+      → over ≡ putAnswer s c q source destination S
+  unfolding putAnswer
+  to-entry i f k = pick-t (isIdle (s .step)) over fitting _ i (pick-t _ over sought _ f (pick-t _ over over _ k refl))
+
+  pub number-width : putAnswer s c q source destination S ≡ Accepted → goodWidth (s .number .0) ≡ true
+  unfolding putAnswer
+  number-width e =
+      let p = passed (isIdle (s .step)) fitting AlreadyBusy e in
+      let f = passed (idsFit (c .id) (q .destination) (s .number)) sought BadIdWidth (p .1) in
+      ids-width (c .id) (q .destination) (s .number) (f .0)
