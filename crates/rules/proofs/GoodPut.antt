@@ -15,7 +15,7 @@ use Rattle.basis.specs.Pick.{pick}
 use Rattle.basis.proofs.Pick.{cases}
 use Rattle.rules.specs.Numbers.{goodWidth, fits, larger, H, F, C, segmentLength}
 use Rattle.rules.specs.Utf8.{isUtf8}
-use Rattle.rules.specs.Layout.{metadata, pduLength}
+use Rattle.rules.specs.Layout.{metadata, encode, pduLength}
 use Rattle.rules.specs.PduLaws.{Fit}
 use Rattle.rules.specs.States.{isIdle}
 use Rattle.rules.specs.Put.{idsFit, isFound, entryOf, knownType, allKnown, goodEntry, goodConfig, goodLength, goodLengths, headOf, tooLong, padded, paddedLength, fixedOf, started, entryAnswer, putAnswer, putState}
@@ -31,6 +31,7 @@ use Rattle.rules.specs.declared.Answer.{Answer}
 use Rattle.rules.specs.declared.Answer.the-variants.{Accepted, Refused}
 use Rattle.rules.proofs.Tells.{both, but}
 use Rattle.rules.proofs.PutExactly.{tells-type, fails-actions}
+use Rattle.rules.proofs.Round.{length-encode}
 use Rattle.rules.proofs.Utf8.{utf8-exactly}
 use Rattle.rules.proofs.GoodQueue.{good-empty}
 use Rattle.rules.proofs.GoodMarks.{good-noMarks}
@@ -124,7 +125,7 @@ good-name name e u =
 -- ---- what is fixed
 
 -- the metadata PDU's length, in its parts
-long : (h : Head) (closure : Bool) (type n : ℕ) (a b : List ℕ)
+pub long : (h : Head) (closure : Bool) (type n : ℕ) (a b : List ℕ)
     → pduLength h (metadata closure type n a b) ≡ H h + (4 + F (h .large) + length a + length b) + C (h .crc)
 unfolding pduLength
 long h closure type n a b = omega arith
@@ -160,13 +161,13 @@ good-fixed c e q n source destination S i g l S64 =
 
 -- any metadata PDU with these names
 meta-room : (h : Head) (e : RemoteEntityConfig) (closure : Bool) (type n : ℕ) (source destination a b : List ℕ)
-    → tooLong h e source destination ≡ false → e .maxpacket ≤ 4096 → a ≡ source → b ≡ destination → pduLength h (metadata closure type n a b) ≤ 4096
+    → tooLong h e source destination ≡ false → e .maxpacket ≤ 4096 → a ≡ source → b ≡ destination → length (encode h (metadata closure type n a b)) ≤ 4096
 unfolding tooLong
 meta-room h e closure type n source destination a b l p i j =
     let k = ltb-false (e .maxpacket) (pduLength h (metadata false 0 0 source destination)) l in
     let x = long h false 0 0 source destination in
     let y = long h closure type n source destination in
-    rw (i, j) (omega arith)
+    rw (i, j, length-encode h (metadata closure type n source destination)) (omega arith)
 
 pub put-good : (s : State) (c : LocalEntityConfig) (q : PutRequest) (source destination : List ℕ) (S : ℕ) → S < 2 ^ 64
     → putAnswer s c q source destination S ≡ Accepted → Good (putState s c q source destination S)

@@ -13,7 +13,7 @@ use lib.Seq.{getD-take}
 use Rattle.basis.specs.Pick.{pick}
 use Rattle.rules.specs.Numbers.{goodWidth, fits}
 use Rattle.rules.specs.Utf8.{isUtf8, Utf8}
-use Rattle.rules.specs.Layout.{metadata, pduLength}
+use Rattle.rules.specs.Layout.{metadata, encode, pduLength}
 use Rattle.rules.specs.Refusals.{answerNo}
 use Rattle.rules.specs.States.{isIdle}
 use Rattle.rules.specs.Put.{idsFit, findIn, entries, isFound, noRemote, entryOf, knownType, knownAction, allKnown, goodEntry, goodConfig, goodLength, goodLengths, headOf, tooLong, entryAnswer, putAnswer, byAnswer, putState, putSpec}
@@ -24,13 +24,13 @@ use Rattle.rules.specs.declared.Head.{Head}
 use Rattle.rules.specs.declared.RemoteEntityConfig.{RemoteEntityConfig}
 use Rattle.rules.specs.declared.LocalEntityConfig.{LocalEntityConfig}
 use Rattle.rules.specs.declared.Answer.{Answer}
+use Rattle.rules.proofs.Round.{widths-exactly, length-encode}
 use Rattle.rules.proofs.Tells.{Tells, Fails, tests, tells-eqb, tells-ltb, fails-leb, fails-not, fails-either, iff-tells, tells-idle}
 use Rattle.rules.proofs.Order.{hits, fails, passes, exactly}
 use Rattle.rules.proofs.Utf8.{utf8-exactly}
 
 pub tells-width : (w : ℕ) → Tells (goodWidth w) (Width w)
-unfolding goodWidth
-tells-width w = search tests depth 8
+tells-width w = iff-tells (widths-exactly w)
 
 pub tells-fits : (w v : ℕ) → Tells (fits w v) (Within w v)
 unfolding fits
@@ -88,9 +88,9 @@ fails-utf8 : (name : List ℕ) → Fails (isUtf8 name) (¬ Utf8 name)
 fails-utf8 name = fails-not (iff-tells (utf8-exactly name))
 
 tells-long : (h : Head) (e : RemoteEntityConfig) (closure : Bool) (type n : ℕ) (source destination : List ℕ)
-    → Tells (tooLong h e source destination) (e .maxpacket < pduLength h (metadata closure type n source destination))
+    → Tells (tooLong h e source destination) (e .maxpacket < length (encode h (metadata closure type n source destination)))
 unfolding tooLong pduLength
-tells-long h e closure type n source destination = tells-ltb _ _
+tells-long h e closure type n source destination = rw (length-encode h (metadata closure type n source destination)) (tells-ltb _ _)
 
 pub put-exactly : PutExactly
 unfolding putSpec putAnswer entryAnswer

@@ -10,7 +10,7 @@ use Rattle.basis.specs.Bytes.{byte, numAt}
 use Rattle.rules.specs.Numbers.{F}
 use Rattle.rules.specs.Utf8.{Utf8}
 use Rattle.rules.specs.Checksum.{crc16}
-use Rattle.rules.specs.Layout.{metadata, pduLength}
+use Rattle.rules.specs.Layout.{metadata, encode}
 use Rattle.rules.specs.Reading.{versionIn, idWidthIn, seqWidthIn, lengthIn, crcIn, largeIn, fileDataIn, toSenderIn, headIn, endIn, frameIn, bodyIn, requestCount}
 use Rattle.rules.specs.PduLaws.{Tlvs}
 use Rattle.rules.specs.Refusals.{answerNo}
@@ -94,7 +94,7 @@ putRules s c q source destination S =
     ∷ (5 when BadLength source ⊎ BadLength destination)
     ∷ (6 when ¬ Utf8 source)
     ∷ (7 when ¬ Utf8 destination)
-    ∷ (8 when e .maxpacket < pduLength (headOf c e q (s .number) S) pdu)
+    ∷ (8 when e .maxpacket < length (encode (headOf c e q (s .number) S) pdu))
     ∷ []
 
 -- PROMISE put-exactly: a put gives each number exactly when the table says so.

@@ -19,7 +19,14 @@ pub fn new(number: TransactionSeqNum) -> State
 }
 
 // Puts a file of `size` bytes: refusals 1 to 8, or SendingMetadata.
-pub fn put(s: State, c: LocalEntityConfig, q: PutRequest, source: &[u8], destination: &[u8], size: u64) -> Done
+pub fn put(
+    s: State,
+    c: LocalEntityConfig,
+    q: PutRequest,
+    source: &[u8],
+    destination: &[u8],
+    size: u64,
+) -> Done
     ensures { λ r. ⌜ PutMeets s c q (now (source .entry)) (now (destination .entry)) size r ⌝ }
 {
     source_put::put(s, c, q, source, destination, size)
