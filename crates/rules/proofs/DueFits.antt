@@ -11,7 +11,7 @@ use Rattle.rules.specs.Numbers.{H, F, C}
 use Rattle.rules.specs.Layout.{metadata, fileData, eof, ackFinished, pduLength}
 use Rattle.rules.specs.States.{idle, sourceName, destinationName}
 use Rattle.rules.specs.Queues.{isMetadata, oldest}
-use Rattle.rules.specs.Step.{eofOwed, dueOf, repairOf, closing, closureBit, metadataOf, sendingOf, bytesFor, bytesDue}
+use Rattle.rules.specs.Step.{eofOwed, dueOf, repairOf, closing, metadataOf, sendingOf, bytesFor, bytesDue}
 use Rattle.rules.specs.Good.{GoodName, Under, At, DueFits}
 use Rattle.rules.specs.declared.TransactionSeqNum.{TransactionSeqNum}
 use Rattle.rules.specs.declared.Head.{Head}
@@ -23,7 +23,6 @@ use Rattle.rules.specs.declared.Due.the-variants.{CancelEof, Repair, Met
 use Rattle.rules.specs.declared.Sending.{Sending}
 use Rattle.rules.specs.declared.Sending.the-variants.{Nothing as NoPdu, Metadata as MetadataPdu, FileData, Eof as EofPdu, AckFinished}
 use Rattle.rules.proofs.Round.{length-encode}
-use Rattle.rules.proofs.GoodPut.{long}
 
 -- a data PDU carries at most L bytes
 abbrev Small : ℕ → Sending → Type 0
@@ -59,18 +58,18 @@ module _ (s : State) (file : List ℕ) (u : Under s) where
 
   -- the metadata PDU, in its parts
   room : H h + (4 + F (h .large) + length (sourceName (s .names)) + length (destinationName (s .names))) + C (h .crc) ≤ 4096
-  unfolding h
+  unfolding h pduLength
   room =
       let f = s .fixed in
       let m = metadata (f .closure) (f .checksum) (f .size) (sourceName (s .names)) (destinationName (s .names)) in
-      rw (← (long (f .head) (f .closure) (f .checksum) (f .size) (sourceName (s .names)) (destinationName (s .names))), ← (length-encode (f .head) m)) (u .metadata)
+      let r = u .metadata in
+      omega (arith, length-encode (f .head) m)
 
   fits : (d : Sending) → Small (s .fixed .segment) d → length (bytesFor s file d) ≤ 4096
   unfolding h pduLength
   fits NoPdu _ = omega arith
   fits MetadataPdu _ =
       let r = room in
-      let l = long h (closureBit s) (s .fixed .checksum) (s .fixed .size) (sourceName (s .names)) (destinationName (s .names)) in
       rw (length-encode h (metadataOf s)) (omega arith)
   fits (FileData o n) k =
       let r = u .fixed .room in
