@@ -1,5 +1,4 @@
 // What all readers take: a byte, a part or a number that may lie past the end, the width of a size, a condition.
-use basis::lesser;
 use basis::num_at;
 ghost use mathlib.Core.Path.{_≡_};
 ghost use Prim.Native.Nat.{_-_, _*_, _<_, _≤_, _^_};
@@ -24,8 +23,12 @@ pub fn part_of(s: &[u8], at: usize, w: usize) -> &[u8]
     if s.len() <= at {
         return &s[0..0];
     }
-    let e = at + lesser(w, s.len() - at);
-    &s[at..e]
+    if s.len() - at <= w {
+        let end = s.len();
+        return &s[at..end];
+    }
+    let end = at + w;
+    &s[at..end]
 }
 
 // The number in w bytes from a place on.

@@ -11,7 +11,7 @@ use rules::Framed;
 use rules::Head;
 use rules::TransactionSeqNum;
 ghost use mathlib.Core.Path.{_≡_};
-ghost use Prim.Native.Nat.{_+_, _*_, _<_, _≤_, _^_};
+ghost use Prim.Native.Nat.{_<_, _≤_, _^_};
 ghost use Rattle.rules.specs.Numbers.{goodWidth, C};
 ghost use Rattle.rules.specs.Reading.{bitIn, versionIn, crcIn, lengthIn, idWidthIn, seqWidthIn, headIn, hIn, endIn, bodyEnd, crcAgrees, wellFramed, frameIn, framedIn};
 

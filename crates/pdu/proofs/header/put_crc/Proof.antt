@@ -20,7 +20,7 @@ cast-put-be : tie.Need-cast-put-be
 cast-put-be c = search needs
 
 put-be-requires : tie.Need-put-be-requires
-put-be-requires c κs = rw (c .before .before .before .if1 .taken) at (c .before .before .before .before .before .pre)
+put-be-requires c κs = omega (arith, rw (c .before .before .before .if1 .taken) at (c .before .before .before .before .before .pre))
 
 same-length : tie.Need-same-length
 same-length c = search needs
