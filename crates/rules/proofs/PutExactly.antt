@@ -17,7 +17,7 @@ use Rattle.rules.specs.Layout.{metadata, encode, pduLength}
 use Rattle.rules.specs.Refusals.{answerNo}
 use Rattle.rules.specs.States.{isIdle}
 use Rattle.rules.specs.Put.{idsFit, findIn, entries, isFound, noRemote, entryOf, knownType, knownAction, allKnown, goodEntry, goodConfig, goodLength, goodLengths, headOf, tooLong, entryAnswer, putAnswer, byAnswer, putState, putSpec}
-use Rattle.rules.specs.Exactly.{Width, Within, OneHas, lookedAt, KnownType, BadEntry, OneUnknown, BadLength, putRules, PutExactly, FirstEntry}
+use Rattle.rules.specs.Exactly.{Width, Within, OneHas, lookedAt, KnownType, BadEntry, OneUnknown, BadLength, putRules, PutExactly, FoundExactly, FirstEntry}
 use Rattle.rules.specs.declared.EntityId.{EntityId}
 use Rattle.rules.specs.declared.TransactionSeqNum.{TransactionSeqNum}
 use Rattle.rules.specs.declared.Head.{Head}
@@ -25,7 +25,7 @@ use Rattle.rules.specs.declared.RemoteEntityConfig.{RemoteEntityConfig}
 use Rattle.rules.specs.declared.LocalEntityConfig.{LocalEntityConfig}
 use Rattle.rules.specs.declared.Answer.{Answer}
 use Rattle.rules.proofs.Round.{widths-exactly, length-encode}
-use Rattle.rules.proofs.Tells.{Tells, Fails, tests, tells-eqb, tells-ltb, fails-leb, fails-not, fails-either, iff-tells, tells-idle}
+use Rattle.rules.proofs.Tells.{Tells, Fails, tests, tells-eqb, tells-ltb, fails-leb, fails-not, fails-either, iff-tells, fails-iff, tells-idle}
 use Rattle.rules.proofs.Order.{hits, fails, passes, exactly}
 use Rattle.rules.proofs.Utf8.{utf8-exactly}
 
@@ -128,6 +128,9 @@ first-in (e ∷ es) v f = go (first-in es v) (eqb (e .id .1) v) (tells-eqb (e .i
     go i false t f =
         let r = i (sym (leb·suc-suc (suc (findIn es v)) (length es)) ∙ f) in
         (e ∷ r .0, r .1, ap (λ (l : List RemoteEntityConfig). e ∷ l) (r .2), ⊎-elim (t .no refl) (r .3), r .4)
+
+pub found-exactly : FoundExactly
+found-exactly c v = fails-iff (fails-found c v)
 
 pub first-entry : FirstEntry
 unfolding isFound entries entryOf

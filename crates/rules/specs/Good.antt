@@ -1,4 +1,5 @@
--- What holds of every state that calls can reach. Proofs: proofs/GoodQueue.antt, proofs/GoodPut.antt, proofs/Good.antt.
+-- What holds of every state that calls can reach. Proofs: proofs/GoodQueue.antt, GoodMarks.antt, GoodPut.antt, GoodDeliver.antt,
+-- Good.antt, DueFits.antt.
 -- Assumes nothing.
 use mathlib.Core.Path.{_≡_}
 use mathlib.Core.Logic.{_⊎_}
