@@ -1,20 +1,19 @@
 -- The number after a call: every way to another state either keeps it or is an accepted put.
 -- Assumes nothing.
 use mathlib.Core.Path.{_≡_, refl, ap, _∙_}
-use mathlib.Core.Bool.{Bool, true, false}
+use mathlib.Core.Bool.{Bool}
 use mathlib.Core.List.{List, [], _∷_}
 use Prim.Native.Nat.{ℕ, _+_}
-use lib.Dec.{eqb, leb, ltb}
+use lib.Dec.{eqb, ltb}
 use lib.ListN.{length}
-use Rattle.basis.specs.Pick.{pick}
 use Rattle.basis.proofs.Pick.{cases}
 use Rattle.rules.specs.States.{idle}
 use Rattle.rules.specs.Queues.{anyInvalid, owing, free}
 use Rattle.rules.specs.Put.{started, putAnswer, putState, byAnswer, putSpec}
 use Rattle.rules.specs.Deliver.{verdictOf, takesNak, nakOf, movedBy, asked, byVerdict, deliverSpec}
 use Rattle.rules.specs.Step.{dueOf, nextLength, afterCancelEof, afterMetadata, afterData, afterEof, afterOf, changed, bytesDue, made as madeStep, stepSpec}
-use Rattle.rules.specs.Cancel.{mayCancel, userCancelled, cancelSpec, resetSpec}
-use Rattle.rules.specs.Runs.{Call, put, deliver, step, cancel, reset, Event, turned, began, took, made, ended, after, unless, seen, trace, behind}
+use Rattle.rules.specs.Cancel.{resetSpec}
+use Rattle.rules.specs.Runs.{put, deliver, step, cancel, reset, Event, began, took, made, after, unless, trace, behind}
 use Rattle.rules.specs.NumberMoves.{moves, movesAll, NumberMoves, NumberBehind}
 use Rattle.rules.specs.declared.SegmentRequest.{SegmentRequest}
 use Rattle.rules.specs.declared.Frame.{Frame}
@@ -33,10 +32,10 @@ use Rattle.rules.specs.declared.Done.{Done}
 use Rattle.rules.specs.declared.Stepped.{Stepped}
 use Rattle.rules.proofs.Outcomes.{cancel-by, delivered-by}
 
--- an answer of any kind shows nothing that moves the number
-unless-took : (a : Answer) (bytes : List ℕ) (n : TransactionSeqNum) → moves (unless a (took bytes)) n ≡ n
-unless-took Accepted bytes n = refl
-unless-took (Refused r) bytes n = refl
+-- refused or not, a call whose event leaves the number shows nothing that moves it
+unless-same : (a : Answer) (e : Event) (n : TransactionSeqNum) → n ≡ moves e n → n ≡ moves (unless a e) n
+unless-same Accepted e n h = h
+unless-same (Refused r) e n h = refl
 
 module _ (s : State) where
   -- it is as it was
@@ -107,18 +106,13 @@ module _ (s : State) where
       cases P (changed s (length file)) _ _ (λ _. refl)
       (λ _. cases P (ltb room (length (bytesDue s file expired))) _ _ (λ _. refl) (λ _. due-same file (dueOf s expired)))
 
--- a step shows nothing that moves it either
-unless-made : (a : Answer) (d : _) (n : TransactionSeqNum) → n ≡ moves (unless a (made d)) n
-unless-made Accepted d n = refl
-unless-made (Refused r) d n = refl
-
 -- ---- every call
 
 pub number-moves : NumberMoves
 unfolding putSpec putState started resetSpec
 number-moves (put c q a b S) s = put-moves s (putState s c q a b S) (putAnswer s c q a b S) refl
-number-moves (deliver bytes) s = rw (unless-took (deliverSpec s bytes .answer) bytes (s .number)) (deliver-same s bytes)
-number-moves (step lent expired out) s = step-same s lent expired (length out) ∙ unless-made (stepSpec s lent expired (length out) .answer) _ (s .number)
+number-moves (deliver bytes) s = deliver-same s bytes ∙ unless-same (deliverSpec s bytes .answer) (took bytes) (s .number) refl
+number-moves (step lent expired out) s = step-same s lent expired (length out) ∙ unless-same (stepSpec s lent expired (length out) .answer) (made _) (s .number) refl
 number-moves (cancel source number) s = cancel-by s (λ e t. t .number ≡ moves e (s .number)) refl refl source number
 number-moves reset s = idle-same s
 

@@ -26,3 +26,4 @@ pub mod Exactly
 pub mod Good
 pub mod Events
 pub mod NumberMoves
+pub mod Expiry
