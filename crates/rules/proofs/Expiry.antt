@@ -50,43 +50,50 @@ front bs out p l =
     ap (λ (n : ℕ). pduIn n (inFront bs out)) e ∙ ap some (ap (λ (n : ℕ). take n (inFront bs out)) (sym e) ∙ taken bs out l)
 
 module _ (file out : List ℕ) where
-  unchanged : (s : State) → Waits s → length file ≡ s .fixed .size → changed s (length file) ≡ false
+  -- it waits, the file is lent and there is room
+  abbrev Ready : State → Type 0
+  Ready s = Waits s × (length file ≡ s .fixed .size) × (length (keptPdu s) ≤ length out)
+
+  unchanged : (s : State) → Ready s → changed s (length file) ≡ false
   unfolding changed
-  unchanged s w f = rw (w .0, eq-eqb (length file) (s .fixed .size) f) refl
+  unchanged s g = rw (g .0 .0, eq-eqb (length file) (s .fixed .size) (g .1)) refl
 
-  again-made : (s : State) → Waits s → length file ≡ s .fixed .size → length (keptPdu s) ≤ length out → s .marks .count + 1 < s .fixed .limit
-      → (stepSpec s file true (length out) ≡ record { answer = Accepted; length = length (keptPdu s); events = eventsOf s EofAgain; state = recounted s (s .marks .count + 1) })
-      × (stepBytes s file true out ≡ inFront (keptPdu s) out)
+  again-made : (s : State) → Ready s → s .marks .count + 1 < s .fixed .limit
+      → (stepBytes s file true out ≡ inFront (keptPdu s) out)
+      × (stepSpec s file true (length out)
+      ≡ record { answer = Accepted; length = length (keptPdu s); events = eventsOf s EofAgain; state = recounted s (s .marks .count + 1) })
   unfolding stepSpec madeStep stepBytes
-  again-made s w f l c =
-      let d = expiry-due .again s w c in
-      let b = le-ltb (length out) (length (keptPdu s)) l in
-      (rw (unchanged s w f, d, b) refl, rw (unchanged s w f, d) refl)
+  again-made s g c =
+      let d = expiry-due .again s (g .0) c in
+      let b = le-ltb (length out) (length (keptPdu s)) (g .2) in
+      (rw (unchanged s g, d) refl, rw (unchanged s g, d, b) refl)
 
-  again-seen : (s : State) → Waits s → length file ≡ s .fixed .size → length (keptPdu s) ≤ length out → s .marks .count + 1 < s .fixed .limit
+  again-seen : (s : State) → Ready s → s .marks .count + 1 < s .fixed .limit
       → (seen (step file true out) s ≡ made (some (keptPdu s))) × (after (step file true out) s ≡ recounted s (s .marks .count + 1))
-  again-seen s w f l c =
-      let m = again-made s w f l c in
-      (rw (m .0, m .1) (ap made (front (keptPdu s) out (encode-pos (s .fixed .head) _) l)), ap (λ (r : Stepped). r .state) (m .0))
+  again-seen s g c =
+      let m = again-made s g c in
+      (rw (m .1, m .0) (ap made (front (keptPdu s) out (encode-pos (s .fixed .head) _) (g .2))), ap (λ (r : Stepped). r .state) (m .1))
 
   -- ---- k steps
 
-  run : (k : ℕ) (s : State) → Waits s → length file ≡ s .fixed .size → length (keptPdu s) ≤ length out → k ≤ repeatsLeft s
+  run : (k : ℕ) (s : State) → Ready s → k ≤ repeatsLeft s
       → (trace (expiries k file out) s ≡ replicate k (made (some (keptPdu s)))) × (behind (expiries k file out) s ≡ recounted s (s .marks .count + k))
   unfolding trace behind
-  run zero s w f l h = (refl, ap (λ (n : ℕ). recounted s n) (omega arith))
-  run (suc k) s w f l h =
-      let e = again-seen s w f l (omega arith) in
-      let r = run k (recounted s (s .marks .count + 1)) w f l (omega arith) in
-      (rw (e .0, e .1) (ap (λ (es : List Event). made (some (keptPdu s)) ∷ es) (r .0)), ap (λ (t : State). behind (expiries k file out) t) (e .1) ∙ r .1 ∙ ap (λ (n : ℕ). recounted s n) (omega arith))
+  run zero s g h = (refl, ap (λ (n : ℕ). recounted s n) (omega arith))
+  run (suc k) s g h =
+      let e = again-seen s g (omega arith) in
+      let r = run k (recounted s (s .marks .count + 1)) g (omega arith) in (
+        rw (e .0, e .1) (ap (λ (es : List Event). made (some (keptPdu s)) ∷ es) (r .0)),
+        ap (λ (t : State). behind (expiries k file out) t) (e .1) ∙ r .1 ∙ ap (λ (n : ℕ). recounted s n) (omega arith),
+      )
 
 pub expiry-counted : ExpiryCounted
 expiry-counted s file out w f l =
     let t = recounted s (s .marks .count + repeatsLeft s) in
     record {
-      emits = λ k h. run file out k s w f l h .0;
-      counts = λ k h. run file out k s w f l h .1;
-      faults = rw (run file out (repeatsLeft s) s w f l (omega arith) .1) (expiry-due .fault t w (omega arith));
+      emits = λ k h. run file out k s (w, f, l) h .0;
+      counts = λ k h. run file out k s (w, f, l) h .1;
+      faults = rw (run file out (repeatsLeft s) s (w, f, l) (omega arith) .1) (expiry-due .fault t w (omega arith));
     }
 
 -- ---- limit 0
