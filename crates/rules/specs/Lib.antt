@@ -24,3 +24,6 @@ pub mod Cases
 pub mod OneOutcome
 pub mod Exactly
 pub mod Good
+pub mod Events
+pub mod NumberMoves
+pub mod Expiry

@@ -1,0 +1,122 @@
+-- The number after a call: every way to another state either keeps it or is an accepted put.
+-- Assumes nothing.
+use mathlib.Core.Path.{_≡_, refl, ap, _∙_}
+use mathlib.Core.Bool.{Bool}
+use mathlib.Core.List.{List, [], _∷_}
+use Prim.Native.Nat.{ℕ, _+_}
+use lib.Dec.{eqb, ltb}
+use lib.ListN.{length}
+use Rattle.basis.proofs.Pick.{cases}
+use Rattle.rules.specs.States.{idle}
+use Rattle.rules.specs.Queues.{anyInvalid, owing, free}
+use Rattle.rules.specs.Put.{started, putAnswer, putState, byAnswer, putSpec}
+use Rattle.rules.specs.Deliver.{verdictOf, takesNak, nakOf, movedBy, asked, byVerdict, deliverSpec}
+use Rattle.rules.specs.Step.{dueOf, nextLength, afterCancelEof, afterMetadata, afterData, afterEof, afterOf, changed, bytesDue, made as madeStep, stepSpec}
+use Rattle.rules.specs.Cancel.{resetSpec}
+use Rattle.rules.specs.Runs.{put, deliver, step, cancel, reset, Event, began, took, made, after, unless, trace, behind}
+use Rattle.rules.specs.NumberMoves.{moves, movesAll, NumberMoves, NumberBehind}
+use Rattle.rules.specs.declared.SegmentRequest.{SegmentRequest}
+use Rattle.rules.specs.declared.Frame.{Frame}
+use Rattle.rules.specs.declared.Meaning.{Meaning}
+use Rattle.rules.specs.declared.Meaning.the-variants.{Finished, AckOfEof, Nak, KeepAlive}
+use Rattle.rules.specs.declared.Verdict.{Verdict}
+use Rattle.rules.specs.declared.Verdict.the-variants.{Enqueue, Move, Refuse, NoEffect}
+use Rattle.rules.specs.declared.Eof.{Eof}
+use Rattle.rules.specs.declared.TransactionSeqNum.{TransactionSeqNum}
+use Rattle.rules.specs.declared.State.{State}
+use Rattle.rules.specs.declared.Due.{Due}
+use Rattle.rules.specs.declared.Due.the-variants.{CancelEof, Repair, Metadata, Data, NoErrorEof, EofAgain, FaultCancel, FaultIgnore, FaultAbandon, Close, Nothing}
+use Rattle.rules.specs.declared.Answer.{Answer}
+use Rattle.rules.specs.declared.Answer.the-variants.{Accepted, Refused}
+use Rattle.rules.specs.declared.Done.{Done}
+use Rattle.rules.specs.declared.Stepped.{Stepped}
+use Rattle.rules.proofs.Outcomes.{cancel-by, delivered-by}
+
+-- refused or not, a call whose event leaves the number shows nothing that moves it
+unless-same : (a : Answer) (e : Event) (n : TransactionSeqNum) → n ≡ moves e n → n ≡ moves (unless a e) n
+unless-same Accepted e n h = h
+unless-same (Refused r) e n h = refl
+
+module _ (s : State) where
+  -- it is as it was
+  abbrev Same : State → Type 0
+  Same t = t .number ≡ s .number
+
+  idle-same : Same (idle (s .number))
+  unfolding idle
+  idle-same = refl
+
+  -- ---- put
+
+  put-moves : (t : State) (a : Answer) → t .number ≡ moves began (s .number)
+      → byAnswer s t a .state .number ≡ moves (unless (byAnswer s t a .answer) began) (s .number)
+  put-moves t Accepted e = e
+  put-moves t (Refused r) e = refl
+
+  -- ---- deliver
+
+  moved-same : (m : Meaning) → Same (movedBy s m)
+  moved-same (Finished f) = refl
+  moved-same AckOfEof = refl
+  moved-same (Nak n) = refl
+  moved-same (KeepAlive p) = refl
+
+  nak-same : (rs : List SegmentRequest) → Same (nakOf s rs .state)
+  unfolding nakOf
+  nak-same rs =
+      let P : Done → Type 0 = λ d. Same (d .state) in
+      cases P (takesNak s) _ _
+      (λ _. cases P (anyInvalid (s .file .progress) rs) _ _ (λ _. refl) (λ _. cases P (ltb (free (s .queue)) (owing rs)) _ _ (λ _. refl) (λ _. refl)))
+      (λ _. refl)
+
+  verdict-same : (bytes : List ℕ) (f : Frame) (m : Meaning) (v : Verdict) → Same (byVerdict s bytes f m v .state)
+  verdict-same bytes f m Enqueue = nak-same (asked bytes f m)
+  verdict-same bytes f m Move = moved-same m
+  verdict-same bytes f m Refuse = refl
+  verdict-same bytes f m NoEffect = refl
+
+  deliver-same : (bytes : List ℕ) → Same (deliverSpec s bytes .state)
+  deliver-same bytes = delivered-by s (λ _ d. Same (d .state)) (λ rs r. refl) (λ b f m. verdict-same b f m (verdictOf (s .step) m)) bytes
+
+  -- ---- step
+
+  cancel-eof-same : (t : State) (e : Eof) → Same t → Same (afterCancelEof t e)
+  unfolding afterCancelEof idle
+  cancel-eof-same t e h = cases Same (t .fixed .head .unacknowledged) _ _ (λ _. h) (λ _. h)
+
+  due-same : (file : List ℕ) (d : Due) → Same (afterOf s file d)
+  unfolding afterMetadata afterData afterEof
+  due-same file CancelEof = cancel-eof-same s _ refl
+  due-same file Repair = refl
+  due-same file Metadata = cases Same (eqb (s .fixed .size) 0) _ _ (λ _. refl) (λ _. refl)
+  due-same file Data = cases Same (eqb (s .file .progress + nextLength s) (s .fixed .size)) _ _ (λ _. refl) (λ _. refl)
+  due-same file NoErrorEof =
+      cases Same (s .fixed .head .unacknowledged) _ _ (λ _. cases Same (s .fixed .closure) _ _ (λ _. refl) (λ _. idle-same)) (λ _. refl)
+  due-same file EofAgain = refl
+  due-same file (FaultCancel c) = cancel-eof-same _ _ refl
+  due-same file (FaultIgnore c) = refl
+  due-same file (FaultAbandon c) = idle-same
+  due-same file Close = idle-same
+  due-same file Nothing = refl
+
+  step-same : (file : List ℕ) (expired : Bool) (room : ℕ) → Same (stepSpec s file expired room .state)
+  unfolding stepSpec madeStep
+  step-same file expired room =
+      let P : Stepped → Type 0 = λ r. Same (r .state) in
+      cases P (changed s (length file)) _ _ (λ _. refl)
+      (λ _. cases P (ltb room (length (bytesDue s file expired))) _ _ (λ _. refl) (λ _. due-same file (dueOf s expired)))
+
+-- ---- every call
+
+pub number-moves : NumberMoves
+unfolding putSpec putState started resetSpec
+number-moves (put c q a b S) s = put-moves s (putState s c q a b S) (putAnswer s c q a b S) refl
+number-moves (deliver bytes) s = deliver-same s bytes ∙ unless-same (deliverSpec s bytes .answer) (took bytes) (s .number) refl
+number-moves (step lent expired out) s = step-same s lent expired (length out) ∙ unless-same (stepSpec s lent expired (length out) .answer) (made _) (s .number) refl
+number-moves (cancel source number) s = cancel-by s (λ e t. t .number ≡ moves e (s .number)) refl refl source number
+number-moves reset s = idle-same s
+
+pub number-behind : NumberBehind
+unfolding trace behind movesAll
+number-behind [] s = refl
+number-behind (c ∷ cs) s = number-behind cs (after c s) ∙ ap (movesAll (trace cs (after c s))) (number-moves c s)

@@ -1,0 +1,28 @@
+-- "only an accepted put moves" the sequence number. Proof: proofs/NumberMoves.antt.
+-- Assumes nothing.
+use mathlib.Core.Path.{_≡_}
+use mathlib.Core.List.{List, [], _∷_}
+use Rattle.rules.specs.Numbers.{numberAfter}
+use Rattle.rules.specs.Runs.{Call, Event, turned, began, took, made, ended, after, seen, trace, behind}
+use Rattle.rules.specs.declared.TransactionSeqNum.{TransactionSeqNum}
+use Rattle.rules.specs.declared.State.{State}
+
+-- an accepted put moves it by one; a refused call, a delivery, a step, a cancel or a reset leaves it
+abbrev pub moves : Event → TransactionSeqNum → TransactionSeqNum
+moves turned n = n
+moves began n = numberAfter n
+moves (took bytes) n = n
+moves (made pdu) n = n
+moves ended n = n
+
+unfoldable pub movesAll : List Event → TransactionSeqNum → TransactionSeqNum
+movesAll [] n = n
+movesAll (e ∷ es) n = movesAll es (moves e n)
+
+-- PROMISE number-moves: after any call the number is what the call's event makes of it.
+abbrev pub NumberMoves : Type 0
+NumberMoves = (c : Call) (s : State) → after c s .number ≡ moves (seen c s) (s .number)
+
+-- PROMISE number-behind: so after any calls it was moved once by each accepted put, and by nothing else.
+abbrev pub NumberBehind : Type 0
+NumberBehind = (cs : List Call) (s : State) → behind cs s .number ≡ movesAll (trace cs s) (s .number)
