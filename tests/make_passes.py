@@ -302,8 +302,8 @@ p.put(checksum=2, packet=30).step().cancel().step()
 p = Pass('L: from the segment maximum or from the packet maximum', file=bytes(range(40)), unack=True)
 p.put(segment=4096).step(9).at(IDLE).put(segment=7, packet=18).step(2).reset().put(segment=6).step(2).reset().put(segment=40, packet=51).step(3).at(IDLE)
 p.put(segment=40, packet=50).step(4).at(IDLE).put(segment=39, packet=51).step(4).at(IDLE).put(segment=8, packet=4096).step(7).at(IDLE)
-p = Pass('packet maximum 4,096, filled', file=bytes(k * 7 % 251 for k in range(4200)), packet=4096, segment=4096, checksum=2, crc=True)
-p.put().step().exact().exact().at(EOF).nak((4083, 4084), (0, 0)).exact().exact().step(want=31, room=18)
+p = Pass('packet maximum 4,096, filled', file=bytes(k * 7 % 251 for k in range(4086)), packet=4096, segment=4096, checksum=15)
+p.put().step().exact().exact().at(EOF).nak((4085, 4086), (0, 0)).exact().exact().step(want=31, room=16)
 
 # ---- the bench sheet's pass: 41 requests in one NAK, several longer than L
 
