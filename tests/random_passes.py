@@ -75,7 +75,7 @@ def some_put(rng, size):
     return 'put', config, request, S, names[0], names[1]
 
 
-def some_pair(rng, t):
+def some_pair(rng, t, wrong):
     top = t.progress if t else 5
     kind = rng.random()
     if kind < 0.12:
@@ -83,7 +83,7 @@ def some_pair(rng, t):
     start = rng.randint(0, top)
     if kind < 0.2:
         return start, start
-    if kind < 0.985:
+    if kind < 1 - wrong:
         return start, min(top, start + rng.randrange(1, 4 * (t.L if t and t.L < 100 else 20)))
     return rng.choice([(start, top + 1), (start + 1, start), (top + 1, top + 1), (0, 2 ** 31), (1, 0)])
 
@@ -104,8 +104,8 @@ def some_delivery(rng, t):
     h.unack, h.crc, h.large, h.to_sender = rng.random() < 0.3, rng.random() < 0.5, rng.random() < 0.15, rng.random() < 0.97
     kind = rng.choice('nnnnnnaaaaffffkko')
     if kind == 'n':
-        n = rng.choice([0, 1, 1, 2, 3, 5, 8] + [20, 64, 65] * (rng.random() < 0.1))
-        pairs = [some_pair(rng, t) for _ in range(n)]
+        n = rng.choice([0, 1, 1, 2, 3, 5, 8] + [20, 40, 64, 65] * (rng.random() < 0.2))
+        pairs = [some_pair(rng, t, 0.001 if n > 10 else 0.02) for _ in range(n)]
         body = b'\x08' + b''.join(be(h.F, min(v, 256 ** h.F - 1)) for pair in [(0, rng.randrange(99))] + pairs for v in pair)
     elif kind == 'a':
         body = b'\x06' + be(1, rng.choice([0x40] * 9 + [0x51, 0x41, 0x50, 0x70])) + be(1, rng.choice([0, 1, 0xF1, 0x12, rng.randrange(256)]))
@@ -149,13 +149,13 @@ def some_cancel(rng, t):
 
 def some_call(rng, model, size):
     dice, t = rng.random(), model.t
-    if model.at == IDLE and dice < 0.8 or dice < 0.01:
+    if model.at == IDLE and dice < 0.7 or dice < 0.01:
         return some_put(rng, size)
-    if dice < 0.012:
+    if dice < 0.012 or t and t.S > size and dice < 0.3:     # a file that cannot be lent
         return ('reset',)
-    if dice < 0.04:
+    if dice < 0.04 or model.at == IDLE and dice > 0.95:
         return some_cancel(rng, t)
-    if dice < 0.3:
+    if dice < 0.3 or model.at == IDLE and dice > 0.8:
         return some_delivery(rng, t)
     return some_step(rng, model)
 
