@@ -112,5 +112,9 @@ fn choice(b: u8) -> Choice {
 pub fn request(s: &[u8], at: usize) -> PutRequest {
     let mode = choice(byte_at(s, on(at, 9)));
     let closure = choice(byte_at(s, on(at, 10)));
-    PutRequest { destination: entity(s, at), unacknowledged: mode, closure: closure }
+    PutRequest {
+        destination: entity(s, at),
+        unacknowledged: mode,
+        closure: closure,
+    }
 }

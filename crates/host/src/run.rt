@@ -1,10 +1,10 @@
 // One call after another on a state that goes by value.
-ghost use Prim.Native.Nat.{_≤_};
 use crate::read;
 use crate::write;
 use pdu_read::field::byte_at;
 use pdu_read::field::part_of;
 use rules::State;
+use rules::Stepped;
 
 // Where the list and the answers stand after a call, the state, and the status: 0 go on, 1 unknown kind, 2 cut list, 3 no room.
 pub struct Turn {
@@ -15,7 +15,12 @@ pub struct Turn {
 }
 
 fn stopped(s: State, at: usize, put: usize, status: u8) -> Turn {
-    Turn { at: at, put: put, status: status, state: s }
+    Turn {
+        at: at,
+        put: put,
+        status: status,
+        state: s,
+    }
 }
 
 // Kind 1: 251 bytes of configuration, 11 of request, 8 of size, then two names behind their lengths.
@@ -43,7 +48,7 @@ fn put_call(s: State, calls: &[u8], at: usize, answers: &mut [u8], put: usize) -
     let a = d.answer;
     let t = d.state;
     let p = write::add(answers, put, 1, 1);
-    let p2 = write::add(answers, p, 1, write::answer_no(a) as u64);
+    let p2 = write::add(answers, p, 1, basis::wide(write::answer_no(a)));
     stopped(t, end, p2, 0)
 }
 
@@ -61,37 +66,47 @@ fn deliver_call(s: State, calls: &[u8], at: usize, answers: &mut [u8], put: usiz
     let a = d.answer;
     let t = d.state;
     let p = write::add(answers, put, 1, 2);
-    let p2 = write::add(answers, p, 1, write::answer_no(a) as u64);
+    let p2 = write::add(answers, p, 1, basis::wide(write::answer_no(a)));
     stopped(t, read::on(from, n), p2, 0)
 }
 
-fn at_most(a: usize, b: usize) -> usize
-    ensures { λ r. ⌜ r ≤ b ⌝ }
-{
-    if a < b { a } else { b }
-}
-
 // Kind 3: the expiry flag, four bytes of lent length, four of the out buffer's.
-fn step_call(s: State, calls: &[u8], at: usize, file: &[u8], answers: &mut [u8], put: usize) -> Turn {
+fn step_call(
+    s: State,
+    calls: &[u8],
+    at: usize,
+    file: &[u8],
+    answers: &mut [u8],
+    put: usize,
+) -> Turn {
     if !read::whole(calls, at, 9) {
         return stopped(s, at, put, 2);
     }
     let expired = byte_at(calls, at) != 0;
     let lent = part_of(file, 0, read::length(calls, read::on(at, 1), 4));
     let asked = read::length(calls, read::on(at, 5), 4);
-    let room = at_most(asked, 4608);
     let mut space = [0u8; 4608];
-    let d = source::step(s, lent, expired, &mut space[..room]);
-    let a = d.answer;
+    let d = step_in(s, lent, expired, asked, &mut space);
     let e = d.events;
     let t = d.state;
+    let p = add_step(answers, put, d, &space);
+    let q = write::add_events(answers, p, e);
+    stopped(t, read::on(at, 9), q, 0)
+}
+
+// A step whose out buffer is the first `asked` bytes of the space, or all of it.
+fn step_in(s: State, lent: &[u8], expired: bool, asked: usize, space: &mut [u8]) -> Stepped {
+    let room = basis::lesser(asked, space.len());
+    source::step(s, lent, expired, &mut space[..room])
+}
+
+fn add_step(answers: &mut [u8], put: usize, d: Stepped, space: &[u8]) -> usize {
+    let a = d.answer;
     let n = d.length;
     let p = write::add(answers, put, 1, 3);
-    let p2 = write::add(answers, p, 1, write::answer_no(a) as u64);
+    let p2 = write::add(answers, p, 1, basis::wide(write::answer_no(a)));
     let p3 = write::add(answers, p2, 2, n as u64);
-    let p4 = write::add_bytes(answers, p3, part_of(&space, 0, n));
-    let p5 = write::add_events(answers, p4, e);
-    stopped(t, read::on(at, 9), p5, 0)
+    write::add_bytes(answers, p3, part_of(space, 0, n))
 }
 
 // Kind 4: an entity id and a sequence number.
@@ -99,11 +114,15 @@ fn cancel_call(s: State, calls: &[u8], at: usize, answers: &mut [u8], put: usize
     if !read::whole(calls, at, 18) {
         return stopped(s, at, put, 2);
     }
-    let d = source::cancel(s, read::entity(calls, at), read::number(calls, read::on(at, 9)));
+    let d = source::cancel(
+        s,
+        read::entity(calls, at),
+        read::number(calls, read::on(at, 9)),
+    );
     let yes = d.yes;
     let t = d.state;
     let p = write::add(answers, put, 1, 4);
-    let p2 = write::add(answers, p, 1, basis::bit_of(yes) as u64);
+    let p2 = write::add(answers, p, 1, basis::wide(basis::bit_of(yes)));
     stopped(t, read::on(at, 18), p2, 0)
 }
 
@@ -145,13 +164,13 @@ pub fn run(calls: &[u8], file: &[u8], answers: &mut [u8]) -> u64 {
         if at >= calls.len() {
             break;
         }
+        k += 1;
         let t = call(s, calls, at, file, answers, put);
         s = t.state;
         at = t.at;
         put = t.put;
         status = t.status;
-        k += 1;
     }
     let p = write::add(answers, put, 1, 255);
-    write::add(answers, p, 1, status as u64) as u64
+    write::add(answers, p, 1, basis::wide(status)) as u64
 }

@@ -1,10 +1,12 @@
 // The answers written, each field only where it fits; `run` keeps room for the whole record.
+ghost use Prim.Native.Nat.{_≤_};
 use rules::Answer;
 use rules::Events;
 use rules::FaultEvent;
 use rules::FinishedEvent;
 use rules::Refusal;
 use rules::TimerEvent;
+use rules::TransactionId;
 
 // A number in w bytes.
 pub fn add(out: &mut [u8], at: usize, w: usize, v: u64) -> usize {
@@ -55,25 +57,37 @@ pub fn answer_no(a: Answer) -> u8 {
     }
 }
 
-fn flag(b: bool, v: u8) -> u8 {
+fn flag(b: bool, v: u64) -> u64
+    ensures { λ r. ⌜ r ≤ v ⌝ }
+{
     if b { v } else { 0 }
 }
 
-fn fault_bit(f: FaultEvent) -> u8 {
+fn fault_bit(f: FaultEvent) -> u64
+    ensures { λ r. ⌜ r ≤ 4 ⌝ }
+{
     match f {
         FaultEvent::NoFault => 0,
-        FaultEvent::Fault { action: _, condition: _, progress: _ } => 4,
+        FaultEvent::Fault {
+            action: _,
+            condition: _,
+            progress: _,
+        } => 4,
     }
 }
 
-fn finished_bit(f: FinishedEvent) -> u8 {
+fn finished_bit(f: FinishedEvent) -> u64
+    ensures { λ r. ⌜ r ≤ 8 ⌝ }
+{
     match f {
         FinishedEvent::NotFinished => 0,
         FinishedEvent::Finished(_) => 8,
     }
 }
 
-fn timer_bits(t: TimerEvent) -> u8 {
+fn timer_bits(t: TimerEvent) -> u64
+    ensures { λ r. ⌜ r ≤ 32 ⌝ }
+{
     match t {
         TimerEvent::NoTimer => 0,
         TimerEvent::AckTimer => 16,
@@ -84,9 +98,13 @@ fn timer_bits(t: TimerEvent) -> u8 {
 fn add_fault(out: &mut [u8], at: usize, f: FaultEvent) -> usize {
     match f {
         FaultEvent::NoFault => at,
-        FaultEvent::Fault { action, condition, progress } => {
-            let p = add(out, at, 1, action as u64);
-            let q = add(out, p, 1, condition as u64);
+        FaultEvent::Fault {
+            action,
+            condition,
+            progress,
+        } => {
+            let p = add(out, at, 1, basis::wide(action));
+            let q = add(out, p, 1, basis::wide(condition));
             add(out, q, 8, progress)
         }
     }
@@ -96,9 +114,9 @@ fn add_finished(out: &mut [u8], at: usize, f: FinishedEvent) -> usize {
     match f {
         FinishedEvent::NotFinished => at,
         FinishedEvent::Finished(v) => {
-            let p = add(out, at, 1, v.condition as u64);
-            let q = add(out, p, 1, v.delivery as u64);
-            add(out, q, 1, v.status as u64)
+            let p = add(out, at, 1, basis::wide(v.condition));
+            let q = add(out, p, 1, basis::wide(v.delivery));
+            add(out, q, 1, basis::wide(v.status))
         }
     }
 }
@@ -108,16 +126,23 @@ pub fn add_events(out: &mut [u8], at: usize, e: Events) -> usize {
     let fault = e.fault;
     let finished = e.finished;
     let timer = e.timer;
-    let bits = flag(e.transaction, 1) | flag(e.eofsent, 2) | fault_bit(fault) | finished_bit(finished) | timer_bits(timer);
-    let p = add(out, at, 1, bits as u64);
+    let first = flag(e.transaction, 1) + flag(e.eofsent, 2) + fault_bit(fault);
+    let bits = first + finished_bit(finished) + timer_bits(timer);
+    let p = add(out, at, 1, bits);
     if bits == 0 {
         return p;
     }
     let id = e.id;
-    let p1 = add(out, p, 1, id.0.0 as u64);
-    let p2 = add(out, p1, 8, id.0.1);
-    let p3 = add(out, p2, 1, id.1.0 as u64);
-    let p4 = add(out, p3, 8, id.1.1);
-    let p5 = add_fault(out, p4, fault);
-    add_finished(out, p5, finished)
+    let q = add_id(out, p, id);
+    let r = add_fault(out, q, fault);
+    add_finished(out, r, finished)
+}
+
+fn add_id(out: &mut [u8], at: usize, id: TransactionId) -> usize {
+    let source = id.0;
+    let number = id.1;
+    let p = add(out, at, 1, basis::wide(source.0));
+    let q = add(out, p, 8, source.1);
+    let r = add(out, q, 1, basis::wide(number.0));
+    add(out, r, 8, number.1)
 }

@@ -16,7 +16,6 @@ use Rattle.basis.proofs.Pick.{cases}
 use Rattle.rules.specs.Numbers.{F}
 use Rattle.rules.specs.Checksum.{crc16}
 use Rattle.rules.specs.Reading.{endIn, headIn, crcAgrees, wellFramed, frameIn, framedIn, bodyIn, fileDataIn, toSenderIn, largeIn, reserved, finishedParams, finishedIn, ackIn, requestCount, nakIn, keepAliveIn, directiveIn, directed, bodyOf}
-use Rattle.rules.specs.PduLaws.{TlvsExactly}
 use Rattle.rules.specs.Refusals.{answerNo}
 use Rattle.rules.specs.States.{isIdle}
 use Rattle.rules.specs.Queues.{invalid, anyInvalid, owing, free}
@@ -37,6 +36,8 @@ use Rattle.rules.specs.declared.Verdict.{Verdict}
 use Rattle.rules.specs.declared.Verdict.the-variants.{Move, Refuse, NoEffect}
 use Rattle.rules.specs.declared.Refusal.the-variants.{OtherTransaction}
 use Rattle.rules.specs.declared.Done.{Done}
+use Rattle.rules.proofs.Heard.{tlvs-exactly}
+use Rattle.rules.proofs.ExactBody.{reserved-exactly}
 use Rattle.rules.proofs.Tells.{Tells, Fails, tests, tells-eqb, tells-ltb, fails-not, fails-map, tells-either, iff-tells, tells-idle, tells-step}
 use Rattle.rules.proofs.Order.{First, hits, fails, passes, here, there, either, anew, exactly}
 use Rattle.rules.proofs.Table.{verdict-nak, verdict-ack, verdict-finished, verdict-keep}
@@ -74,8 +75,7 @@ reads-last {b = true} t = isgood (t .no refl)
 reads-last {b = false} t = isbad (t .yes refl)
 
 tells-reserved : (c : ℕ) → Tells (reserved c) (Reserved c)
-unfolding reserved
-tells-reserved c = search tests
+tells-reserved c = iff-tells (reserved-exactly c)
 
 nak-reads : (large : Bool) (b : List ℕ) → Reads Malformed (Means (Nak (requestCount large (length b)))) (BadNak large b) (nakIn large b)
 unfolding nakIn
@@ -100,10 +100,9 @@ ack-reads : (b : List ℕ) → Reads Malformed (pick (eqb (byte b 1) 0x40) (Mean
 unfolding ackIn
 ack-reads b = reads-f (fails-not (tells-eqb _ _)) (reads-t (tells-reserved _) (acked (byte b 1)))
 
-module _ (tlvs : TlvsExactly) where
-  finished-reads : (b : List ℕ) → Reads Malformed (Means (Finished (finishedParams (byte b 1)))) (BadFinished b) (finishedIn b)
-  unfolding finishedIn
-  finished-reads b = reads-t (tells-ltb _ _) (reads-t (tells-reserved _) (reads-last (fails-not (iff-tells (tlvs (drop 2 b))))))
+finished-reads : (b : List ℕ) → Reads Malformed (Means (Finished (finishedParams (byte b 1)))) (BadFinished b) (finishedIn b)
+unfolding finishedIn
+finished-reads b = reads-t (tells-ltb _ _) (reads-t (tells-reserved _) (reads-last (fails-not (iff-tells (tlvs-exactly (drop 2 b))))))
 
 -- a code that is none of the others
 not-bad : (large : Bool) (b : List ℕ) → ¬ (length b ≡ 0) → Unread (byte b 0) ⊎ (byte b 0 ≡ 5) ⊎ (byte b 0 ≡ 6) ⊎ (byte b 0 ≡ 8) ⊎ (byte b 0 ≡ 12)
@@ -139,7 +138,7 @@ of-finished x t n = go (eqb x 0x51) (tells-eqb x 0x51)
     go true u = u .yes refl
     go false u = absurd (n (⊎-elim (eqb-false x 0x40 t) (u .no refl)))
 
-module _ (tlvs : TlvsExactly) (large : Bool) (b : List ℕ) (h : ¬ (length b ≡ 0)) where
+module _ (large : Bool) (b : List ℕ) (h : ¬ (length b ≡ 0)) where
   not-unread : (k : ℕ) → byte b 0 ≡ k → (¬ (k ≡ 4)) × (¬ (k ≡ 7)) × (¬ (k ≡ 9)) → ¬ Unread (byte b 0)
   not-unread k e n = ⊎-elim (λ x. n .0 (sym e ∙ x)) (⊎-elim (λ x. n .1 (sym e ∙ x)) (λ x. n .2 (sym e ∙ x)))
 
@@ -150,7 +149,7 @@ module _ (tlvs : TlvsExactly) (large : Bool) (b : List ℕ) (h : ¬ (length b �
 
   finished : byte b 0 ≡ 5 → Directive large b (finishedIn b)
   finished e =
-      by-reads (finished-reads tlvs b) (λ p. inr (inr (inl (e, p))))
+      by-reads (finished-reads b) (λ p. inr (inr (inl (e, p))))
       (λ p. means _ (not-bad large b h (inr (inl e)) (λ _. p) (λ f. absurd (omega arith)) (λ f. absurd (omega arith)) (λ f. absurd (omega arith)))
       (⊎-elim (not-unread 5 e (omega arith)) (λ x. absurd (omega (arith, e, x .0)))) e)
 
@@ -205,9 +204,9 @@ directed-sorted false large b _ (Directive.bad p) = bad (refl, p)
 directed-sorted false large b _ (Directive.cant p q) = cant (λ x. p (x .1)) (inr (inr (inr refl)))
 directed-sorted false large b _ (Directive.means m p q k) = cant (λ x. p (x .1)) (inr (inr (inr refl)))
 
-sorted : TlvsExactly → (f : Frame) (b : List ℕ) → Sorted (f .filedata) (f .tosender) (f .head .large) b (bodyOf f b)
+sorted : (f : Frame) (b : List ℕ) → Sorted (f .filedata) (f .tosender) (f .head .large) b (bodyOf f b)
 unfolding bodyOf
-sorted tlvs f b = go (f .filedata)
+sorted f b = go (f .filedata)
   where
     go : (filedata : Bool)
         → Sorted filedata (f .tosender) (f .head .large) b
@@ -215,7 +214,7 @@ sorted tlvs f b = go (f .filedata)
     go true = cant (λ x. true≢false (x .0)) (inl refl)
     go false =
         cases (Sorted false (f .tosender) (f .head .large) b) (eqb (length b) 0) _ _ (λ e. bad (refl, inl (eqb-true (length b) 0 e)))
-        (λ e. directed-sorted (f .tosender) (f .head .large) b _ (directive tlvs (f .head .large) b (eqb-false (length b) 0 e)))
+        (λ e. directed-sorted (f .tosender) (f .head .large) b _ (directive (f .head .large) b (eqb-false (length b) 0 e)))
 
 -- ---- 22, 24, 25: a NAK
 
@@ -338,9 +337,9 @@ heard-first s bytes f m rs r = go (isIdle (s .step)) (tells-idle (s .step)) (sam
 
 -- ---- all
 
-pub deliver-exactly : TlvsExactly → DeliverExactly
+pub deliver-exactly : DeliverExactly
 unfolding deliverSpec framedIn frameIn bodyIn headIn
-deliver-exactly tlvs s bytes = exactly (deliverRules s bytes) _ refl (go (wellFramed bytes) (fails-frame bytes))
+deliver-exactly s bytes = exactly (deliverRules s bytes) _ refl (go (wellFramed bytes) (fails-frame bytes))
   where
     f : Frame
     f = frameIn bytes
@@ -357,5 +356,5 @@ deliver-exactly tlvs s bytes = exactly (deliverRules s bytes) _ refl (go (wellFr
         (there 21 _ _ _ q (heard-first s bytes f m _ (any-behind s bytes f (byte b 0) (pairsIn bytes) (largeIn bytes) b m refl k refl)))
 
     go : (t : Bool) → Fails t (NoFrame bytes) → First (deliverRules s bytes) (number (byFrame s bytes (pick t (Whole f) NoFrame′)))
-    go true t = body-first (t .no refl) _ (sorted tlvs f b)
+    go true t = body-first (t .no refl) _ (sorted f b)
     go false t = here 20 _ _ (inl (t .yes refl))

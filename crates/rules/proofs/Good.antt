@@ -3,7 +3,7 @@
 use mathlib.Core.Path.{_≡_, refl, sym, ap, subst, _∙_}
 use mathlib.Core.Logic.{_⊎_, inl, inr}
 use mathlib.Core.Bool.{Bool, true, false, true≢false, false≢true}
-use mathlib.Core.List.{List}
+use mathlib.Core.List.{List, [], _∷_}
 use Prim.Native.Nat.{ℕ, _+_, _-_, _^_, _≤_, _<_}
 use native.Mathlib.Omega.{arith}
 use borrow.Author.Tests.{eqb-true, eqb-false, leb-false, ltb-true}
@@ -18,7 +18,8 @@ use Rattle.rules.specs.Step.{actionFor, faultDue, ackExpired, checkExpir
 use Rattle.rules.specs.Put.{putAnswer, putState, byAnswer, putSpec}
 use Rattle.rules.specs.Deliver.{stepNo}
 use Rattle.rules.specs.Cancel.{canCancel, mayCancel, userCancelled, cancelSpec, resetSpec, newSpec}
-use Rattle.rules.specs.Good.{GoodQueue, GoodMarks, Under, Whole, At, Good, GoodKept, new, put, deliver, step, cancel, reset, AlwaysGood, AnomalyNeverMoves}
+use Rattle.rules.specs.Runs.{Call, put, deliver, step, cancel, reset, behind}
+use Rattle.rules.specs.Good.{GoodQueue, GoodMarks, Under, Whole, At, Good, GoodKept, Proper, AlwaysGood, AnomalyNeverMoves}
 use Rattle.rules.specs.declared.EntityId.{EntityId}
 use Rattle.rules.specs.declared.TransactionSeqNum.{TransactionSeqNum}
 use Rattle.rules.specs.declared.FileParams.{FileParams}
@@ -325,13 +326,17 @@ good-kept =
       reset = λ s g. good-idle (s .number);
     }
 
+behind-good : (cs : List Call) (s : State) → Proper cs → Good s → Good (behind cs s)
+unfolding behind
+behind-good [] s p g = g
+behind-good (put c q source destination S ∷ cs) s p g = behind-good cs _ (p .1) (good-kept .put s c q source destination S (p .0) g)
+behind-good (deliver bytes ∷ cs) s p g = behind-good cs _ (p .1) (good-kept .deliver s bytes (p .0) g)
+behind-good (step lent expired out ∷ cs) s p g = behind-good cs _ (p .1) (good-kept .step s lent expired (length out) (p .0) g)
+behind-good (cancel source number ∷ cs) s p g = behind-good cs _ p (good-kept .cancel s source number g)
+behind-good (reset ∷ cs) s p g = behind-good cs _ p (good-kept .reset s g)
+
 pub always-good : AlwaysGood
-always-good _ (new n) = good-kept .new n
-always-good _ (put {s = s} r c q source destination S h) = good-kept .put s c q source destination S h (always-good s r)
-always-good _ (deliver {s = s} r bytes h) = good-kept .deliver s bytes h (always-good s r)
-always-good _ (step {s = s} r file expired room h) = good-kept .step s file expired room h (always-good s r)
-always-good _ (cancel {s = s} r source number) = good-kept .cancel s source number (always-good s r)
-always-good _ (reset {s = s} r) = good-kept .reset s (always-good s r)
+always-good n cs p = behind-good cs (newSpec n) p (good-kept .new n)
 
 pub anomaly-never-moves : AnomalyNeverMoves
-anomaly-never-moves s r = always-good s r .marks .anomalies
+anomaly-never-moves n cs p = always-good n cs p .marks .anomalies

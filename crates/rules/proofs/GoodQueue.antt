@@ -9,13 +9,14 @@ use native.Mathlib.Omega.{arith}
 use borrow.Author.Tests.{leb-false, ltb-false, lt-ltb}
 use lib.Dec.{leb, ltb}
 use lib.ListN.{length, getD, take, drop, set, replicate, length-append, length-drop, length-set, replicate-append-replicate}
-use lib.Seq.{take-suc-set, drop-set-lt, drop-drop, drop-append-le, take-append-le}
+use lib.Seq.{take-suc-set, drop-set-lt, drop-drop, drop-append-le}
 use Rattle.basis.proofs.Pick.{cases}
 use Rattle.rules.specs.States.{blank, emptyQueue}
 use Rattle.rules.specs.Queues.{pending, isMetadata, owes, invalid, anyInvalid, owing, push, pushOwed, pushAll, oldest, pop, served}
 use Rattle.rules.specs.Good.{AllOwe, GoodQueue}
 use Rattle.rules.specs.declared.SegmentRequest.{SegmentRequest}
 use Rattle.rules.specs.declared.Queue.{Queue}
+use Rattle.rules.proofs.Pending.{pending-first}
 use Rattle.rules.proofs.Tells.{neither}
 
 pub good-empty : (p : ℕ) → GoodQueue p emptyQueue
@@ -75,12 +76,8 @@ all-good p q (r ∷ rs) e g =
 
 -- ---- a service
 
-pop-owe : (p : ℕ) (l : List SegmentRequest) (n : ℕ) → 0 < n → n ≤ length l → AllOwe p (take n l) → AllOwe p (take (n - 1) (drop 1 l ++ (blank ∷ [])))
-pop-owe p l zero k h o = absurd (omega arith)
-pop-owe p [] (suc n) k h o = absurd (omega arith)
-pop-owe p (x ∷ l) (suc n) k h o =
-    let e : suc n - 1 ≡ n = omega arith in
-    rw (e, take-append-le n l (blank ∷ []) (omega arith)) (o .2)
+first-owes : (p : ℕ) (r : SegmentRequest) (rs l : List SegmentRequest) → l ≡ r ∷ rs → AllOwe p l → AllOwe p rs
+first-owes p r rs l e o = (rw e at o) .2
 
 later : (a b : ℕ) → a < b → owes (record { start = a; end = b }) ≡ true
 unfolding owes
@@ -114,7 +111,7 @@ served-good p L q k g =
       places = simp (length-append, length-drop) (omega arith);
       used = omega arith;
       unused = pop-unused (q .places) (q .count) k y z (g .unused);
-      owing = pop-owe p (q .places) (q .count) k h (g .owing);
+      owing = first-owes p _ _ _ (pending-first q (record { size = z; used = y }) k) (g .owing);
     })
     (λ f.
     record {

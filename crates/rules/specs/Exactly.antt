@@ -1,4 +1,5 @@
--- Refusals: each number is given exactly when document 01 says so, in its checking order, and a refusal changes nothing. Proofs: proofs/Exactly.antt.
+-- Refusals: each number is given exactly when document 01 says so, in its checking order, and a refusal changes nothing.
+-- Proofs: proofs/PutExactly.antt, DeliverExactly.antt, Exactly.antt.
 -- Assumes nothing.
 use mathlib.Core.Path.{_≡_}
 use mathlib.Core.Logic.{_↔_, _⊎_}
@@ -10,7 +11,7 @@ use Rattle.basis.specs.Bytes.{byte, numAt}
 use Rattle.rules.specs.Numbers.{F}
 use Rattle.rules.specs.Utf8.{Utf8}
 use Rattle.rules.specs.Checksum.{crc16}
-use Rattle.rules.specs.Layout.{metadata, pduLength}
+use Rattle.rules.specs.Layout.{metadata, encode}
 use Rattle.rules.specs.Reading.{versionIn, idWidthIn, seqWidthIn, lengthIn, crcIn, largeIn, fileDataIn, toSenderIn, headIn, endIn, frameIn, bodyIn, requestCount}
 use Rattle.rules.specs.PduLaws.{Tlvs}
 use Rattle.rules.specs.Refusals.{answerNo}
@@ -41,7 +42,8 @@ infix 0 _when_
 pub data Rule : Type 1 where
   _when_ : (number : ℕ) → (holds : Type 0) → Rule
 
--- each number is given exactly if its condition holds and none before it does; 0, accepted, exactly if none does
+-- each number is given exactly if its condition holds and none before it does; 0, accepted, exactly if none does.
+-- `none` says that no condition before these lines holds
 abbrev pub After : Type 0 → List Rule → ℕ → Type 0
 After none [] n = (n ≡ 0) ↔ none
 After none ((k when holds) ∷ rs) n = ((n ≡ k) ↔ (holds × none)) × After ((¬ holds) × none) rs n
@@ -83,6 +85,7 @@ OneUnknown (a ∷ l) = (¬ ((a ≡ 1) ⊎ (a ≡ 3) ⊎ (a ≡ 4))) ⊎ OneUnkno
 abbrev pub BadLength : List ℕ → Type 0
 BadLength name = (length name ≡ 0) ⊎ (255 < length name)
 
+-- 8: the metadata PDU is as long whatever its closure flag says
 abbrev pub putRules : State → LocalEntityConfig → PutRequest → List ℕ → List ℕ → ℕ → List Rule
 putRules s c q source destination S =
     let e = entryOf c (q .destination .1) in
@@ -94,7 +97,7 @@ putRules s c q source destination S =
     ∷ (5 when BadLength source ⊎ BadLength destination)
     ∷ (6 when ¬ Utf8 source)
     ∷ (7 when ¬ Utf8 destination)
-    ∷ (8 when e .maxpacket < pduLength (headOf c e q (s .number) S) pdu)
+    ∷ (8 when e .maxpacket < length (encode (headOf c e q (s .number) S) pdu))
     ∷ []
 
 -- PROMISE put-exactly: a put gives each number exactly when the table says so.
@@ -102,6 +105,10 @@ abbrev pub PutExactly : Type 0
 PutExactly =
     (s : State) (c : LocalEntityConfig) (q : PutRequest) (source destination : List ℕ) (S : ℕ)
     → Exactly (putRules s c q source destination S) (answerNo (putSpec s c q source destination S .answer))
+
+-- PROMISE found-exactly: no entry is found exactly if none of those looked at has that id value.
+abbrev pub FoundExactly : Type 0
+FoundExactly = (c : LocalEntityConfig) (v : ℕ) → (isFound c v ≡ false) ↔ (¬ OneHas v (lookedAt c))
 
 -- PROMISE first-entry: where one is found, the entry used is the first of those looked at with that id value.
 abbrev pub FirstEntry : Type 0

@@ -1,4 +1,5 @@
--- What holds of every state that calls can reach. Proofs: proofs/GoodQueue.antt, proofs/GoodPut.antt, proofs/Good.antt.
+-- What holds of every state that calls can reach. Proofs: proofs/GoodQueue.antt, GoodMarks.antt, GoodPut.antt, GoodDeliver.antt,
+-- Good.antt, DueFits.antt.
 -- Assumes nothing.
 use mathlib.Core.Path.{_≡_}
 use mathlib.Core.Logic.{_⊎_}
@@ -9,14 +10,15 @@ use lib.ListN.{length, take, drop, replicate}
 use Rattle.basis.specs.Bytes.{Bytes}
 use Rattle.rules.specs.Numbers.{numberAfter, isLarge, H, F, C}
 use Rattle.rules.specs.Utf8.{Utf8}
-use Rattle.rules.specs.Layout.{metadata, pduLength}
+use Rattle.rules.specs.Layout.{metadata, encode}
 use Rattle.rules.specs.PduLaws.{Fit}
 use Rattle.rules.specs.States.{blank, emptyQueue, noFile, idle, sourceName, destinationName}
 use Rattle.rules.specs.Queues.{pending, owes}
 use Rattle.rules.specs.Put.{putSpec}
 use Rattle.rules.specs.Deliver.{deliverSpec}
-use Rattle.rules.specs.Step.{stepSpec}
+use Rattle.rules.specs.Step.{bytesDue, stepSpec}
 use Rattle.rules.specs.Cancel.{cancelSpec, resetSpec, newSpec}
+use Rattle.rules.specs.Runs.{Call, put, deliver, step, cancel, reset, behind}
 use Rattle.rules.specs.Exactly.{KnownType, OneUnknown}
 use Rattle.rules.specs.declared.EntityId.{EntityId}
 use Rattle.rules.specs.declared.TransactionSeqNum.{TransactionSeqNum}
@@ -70,7 +72,7 @@ pub record Busy (n : TransactionSeqNum) (f : Fixed) (names : Names) : Type 0 whe
   pub source : GoodName (names .source) (names .sourcelen)
   pub destination : GoodName (names .destination) (names .destinationlen)
   -- the metadata PDU is no longer than 4,096
-  pub metadata : pduLength (f .head) (metadata (f .closure) (f .checksum) (f .size) (sourceName names) (destinationName names)) ≤ 4096
+  pub metadata : length (encode (f .head) (metadata (f .closure) (f .checksum) (f .size) (sourceName names) (destinationName names))) ≤ 4096
   pub next : n ≡ numberAfter (f .head .number)
 
 abbrev pub Under : State → Type 0
@@ -132,20 +134,23 @@ pub record GoodKept : Type 0 where
   pub cancel : (s : State) (source : EntityId) (number : TransactionSeqNum) → Good s → Good (cancelSpec s source number .state)
   pub reset : (s : State) → Good s → Good (resetSpec s)
 
--- states that calls lead to
-pub data Reachable : State → Type 0 where
-  new : (n : TransactionSeqNum) → Reachable (newSpec n)
-  put : {s : State} → Reachable s → (c : LocalEntityConfig) (q : PutRequest) (source destination : List ℕ) (S : ℕ) → S < 2 ^ 64
-      → Reachable (putSpec s c q source destination S .state)
-  deliver : {s : State} → Reachable s → (bytes : List ℕ) → Bytes bytes → Reachable (deliverSpec s bytes .state)
-  step : {s : State} → Reachable s → (file : List ℕ) (expired : Bool) (room : ℕ) → Bytes file → Reachable (stepSpec s file expired room .state)
-  cancel : {s : State} → Reachable s → (source : EntityId) (number : TransactionSeqNum) → Reachable (cancelSpec s source number .state)
-  reset : {s : State} → Reachable s → Reachable (resetSpec s)
+-- calls with bytes that are bytes, and a size of 64 bits
+abbrev pub Proper : List Call → Type 0
+Proper [] = Unit {0}
+Proper (put c q source destination S ∷ cs) = (S < 2 ^ 64) × Proper cs
+Proper (deliver bytes ∷ cs) = Bytes bytes × Proper cs
+Proper (step lent expired out ∷ cs) = Bytes lent × Proper cs
+Proper (cancel source number ∷ cs) = Proper cs
+Proper (reset ∷ cs) = Proper cs
 
--- PROMISE always-good: whatever calls are made, the state is good.
+-- PROMISE always-good: whatever calls are made on a new handler, its state is good.
 abbrev pub AlwaysGood : Type 0
-AlwaysGood = (s : State) → Reachable s → Good s
+AlwaysGood = (n : TransactionSeqNum) (cs : List Call) → Proper cs → Good (behind cs (newSpec n))
+
+-- PROMISE due-fits: in a good state no PDU due is longer than 4,096 bytes, so a buffer of that length is never too small.
+abbrev pub DueFits : Type 0
+DueFits = (s : State) (file : List ℕ) (expired : Bool) → Good s → length (bytesDue s file expired) ≤ 4096
 
 -- PROMISE anomaly-never-moves: the Rust's `invalid_ack_directive_code` count is 0 in every state.
 abbrev pub AnomalyNeverMoves : Type 0
-AnomalyNeverMoves = (s : State) → Reachable s → s .marks .anomalies ≡ 0
+AnomalyNeverMoves = (n : TransactionSeqNum) (cs : List Call) → Proper cs → behind cs (newSpec n) .marks .anomalies ≡ 0
