@@ -178,13 +178,18 @@ p.deliver(20, b'').deliver(20, b'\x28').deliver(20, b'\x28\0\0\0').deliver(20, g
 p.deliver(20, good.to_bytes(ack, length=4)).deliver(20, good.to_bytes(ack, length=2)).deliver(20, good.to_bytes(ack) + b'\0')
 p.body(20, ack + b'\0', source=9).body(20, b'\x06\x40', to_sender=False).body(20, b'\x06\x41\1').body(20, b'\x06\x50\1').body(20, b'\x06\xc0\1')
 p.body(20, b'\x06\x40\xc1').body(20, b'\x06\x51\xd1').body(20, b'\x05').body(20, b'\x05\xc2').body(20, b'\x05\2\1').body(20, b'\x05\2\2\0').body(20, b'\x05\2\6\2a')
+p.body(20, b'\x05\xd2').body(20, b'\x06\x40\xd1').deliver(20, good.to_bytes(ack, version=2)).deliver(20, good.to_bytes(ack, version=7))
+for widths in (b'\x20', b'\x02', b'\x43', b'\x76'):
+    bad = b'\x28\0\3' + widths + b'\1' * (3 + 2 * (widths[0] >> 4) + widths[0] % 16) + ack
+    p.deliver(20, bad)
 p.body(20, b'\x08' + bytes(7)).body(20, b'\x08' + bytes(12)).body(20, b'\x0c' + bytes(3)).body(20, b'\x0c' + bytes(5)).body(20, b'\x0a').body(20, b'\0').body(20, b'\xff')
 crc = p.header(crc=True).to_bytes(ack)
-p.deliver(22, crc).deliver(20, crc[:-1] + bytes([crc[-1] ^ 1])).deliver(20, bytes([crc[0] ^ 8]) + crc[1:])
+p.deliver(22, crc).deliver(20, crc[:-1] + bytes([crc[-1] ^ 1])).deliver(20, crc[:-2] + bytes([crc[-2] ^ 128, crc[-1]])).deliver(20, bytes([crc[0] ^ 8]) + crc[1:])
 p.deliver(20, b'\x2a\0\0\0\1\7\2').deliver(20, b'\x2a\0\1\0\1\7\2\6')
 p.body(21, b'\4').body(21, b'\7').body(21, b'\x09\0', source=9).body(21, b'', file_data=True).body(21, b'\0\0\0\0abc', file_data=True, to_sender=False)
 p.body(21, b'\x06\x51\1', number=(1, 8)).body(21, ack, to_sender=False, destination=3).body(21, b'\4', to_sender=False)
 p.nak((9, 1), want=23, source=9).nak((9, 1), want=23, number=(1, 8)).nak((9, 1), want=23, destination=3).ack(23, source=9).finished(23, destination=1).keep(23, number=(1, 6))
+p.finished(22, condition=14, tlvs=b'\x01\x02\x06\x06\x06\x00').finished(22, tlvs=b'\x06\x00')
 p.nak((9, 1), want=22).step(2).at(DATA).nak((4, 3), want=24).nak((0, 5), want=24).nak((0, 1), (5, 5), want=24).nak((2, 2), (4, 4), (0, 0), (0, 4))
 p.nak((9, 9), want=24).nak((2 ** 32 - 1, 2 ** 32 - 1), want=24).nak((0, 2 ** 40), want=24, large=True)
 p.nak(*[(0, 1)] * 63, want=25).nak(*[(0, 1)] * 62 + [(1, 1), (3, 3)]).nak((0, 0), want=25).nak((1, 1), (4, 4)).nak(*[(0, 1)] * 65 + [(3, 2)], want=24)
@@ -261,7 +266,7 @@ p = Pass('cancel, unacknowledged, in each step; then a second put', unack=True, 
 for step in (METADATA, DATA, EOF, FINISHED):
     p.put().to(step).cancel().step(last='eof-sent').at(IDLE)
 p.put().to(CLOSING).cancel(False).step(last='finished').at(IDLE).put().step(2)
-p = Pass('cancel, other id or number; by value whatever the width').put().step(2).cancel(False, source=(1, 2)).cancel(False, number=(1, 8)).cancel(False, source=(1, 257))
+p = Pass('cancel, other id or number; by value whatever the width').put().step(2).cancel(False, source=(1, 2)).cancel(False, number=(1, 8)).cancel(False, number=(1, 6)).cancel(False, source=(1, 257))
 p.nak((0, 4), (0, 0)).step(want=31, room=3).cancel(source=(8, 1), number=(3, 7)).step(pdu='20 00 0A 00 01 07 02 04 F0 41 42 43 44 00 00 00 04').step(last='')
 p = Pass('cancel EOF, modular sum of a padded word', file=b'\xff\xfe\xfd\xfc\xfb\xfa\xf9', segment=3).put().step(2).cancel()
 p.step(pdu='20 00 0A 00 01 07 02 04 F0 FF FE FD 00 00 00 00 03').step(expired=1, pdu='20 00 0A 00 01 07 02 04 F0 FF FE FD 00 00 00 00 03')
@@ -297,6 +302,7 @@ for entry_unack, entry_closure, unack, closure in [(0, 1, None, None), (1, 1, No
 for kind, name in [(0, 'modular'), (2, 'CRC-32C'), (3, 'CRC-32'), (15, 'null')]:
     p = Pass(f'checksum {name}, CRC on and off, cancelled and whole', file=b'123456789', packet=30, segment=6, checksum=kind)
     p.put(unack=True).step(4).put(crc=True).step(2).cancel().step()
+p = Pass('modular sum that wraps', file=b'\xff' * 14, segment=6).put().to(EOF_ACK)
 p = Pass('S = 0, acknowledged', file=b'').put().step().at(EOF).nak((0, 0), (0, 0)).nak((0, 1), want=24).step(3).at(EOF_ACK).nak((0, 0)).step().ack().finished().step()
 p.put(checksum=2, packet=30).step().cancel().step()
 p = Pass('L: from the segment maximum or from the packet maximum', file=bytes(range(40)), unack=True)

@@ -19,7 +19,7 @@ fn tagged(s: &[u8], at: usize) {
 fn hex(s: &[u8]) {
     let mut i = 0;
     while i < s.len() {
-        io::print_hex(1, s[i] as u64, 2);
+        io::print_hex(1, basis::wide(s[i]), 2);
         i += 1;
     }
 }

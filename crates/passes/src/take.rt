@@ -26,21 +26,37 @@ pub fn length(s: &[u8], at: usize, w: usize) -> usize {
     (basis::num_at(s, at, w) % 4294967296) as usize
 }
 
-// The n bytes of `coded` written out, where a zero stands for as many zeros as the byte behind it says; `out` has zeros. Answers how many.
+// The next byte of a coded list: behind a zero the count of zeros that it stands for, else itself. Answers the place behind what it stands for.
+fn placed(out: &mut [u8], k: usize, counted: bool, b: u8) -> usize {
+    if counted {
+        return on(k, b as usize);
+    }
+    if b == 0 {
+        return k;
+    }
+    if k >= out.len() {
+        return k;
+    }
+    out[k] = b;
+    on(k, 1)
+}
+
+fn counts_next(counted: bool, b: u8) -> bool {
+    if counted {
+        return false;
+    }
+    b == 0
+}
+
+// A coded list written out over zeros; answers its length.
 pub fn spread(coded: &[u8], out: &mut [u8]) -> usize {
     let mut i = 0;
     let mut k = 0;
+    let mut counted = false;
     while i < coded.len() {
         let b = coded[i];
-        if b == 0 {
-            k = on(k, byte_at(coded, i + 1) as usize);
-            i = on(i, 1);
-        } else {
-            if k < out.len() {
-                out[k] = b;
-            }
-            k = on(k, 1);
-        }
+        k = placed(out, k, counted, b);
+        counted = counts_next(counted, b);
         i += 1;
     }
     k
