@@ -1,0 +1,32 @@
+// Each run of the stream: its label, then the answers.
+use crate::say;
+use crate::take;
+use pdu_read::field::part_of;
+
+fn one(file: &[u8], coded: &[u8]) {
+    let mut calls = io::large_buffer();
+    let n = take::spread(coded, &mut calls);
+    let mut answers = io::large_buffer();
+    let m = host::tsendrivaty_run(part_of(&calls, 0, n), file, &mut answers);
+    say::lines(part_of(&answers, 0, (m % 4294967296) as usize));
+}
+
+// A run is a label behind one byte of length, a file and a list behind four each.
+pub fn all(s: &[u8]) {
+    let mut at = 0;
+    let mut k: u64 = 0;
+    while k < 65536 {
+        if at >= s.len() {
+            break;
+        }
+        let file = take::past(s, at, 1);
+        let list = take::past(s, file, 4);
+        io::write_all(1, take::blob(s, at, 1));
+        io::write_all(1, b"\n");
+        one(take::blob(s, file, 4), take::blob(s, list, 4));
+        at = take::past(s, list, 4);
+        k += 1;
+    }
+    io::print_decimal(1, k);
+    io::write_all(1, b" runs\n");
+}
