@@ -6,12 +6,12 @@
 N lists, each of about 48,000 bytes: a hundred and more transactions on one handler over one file. PROGRAM is target/bin/drive if not given. The first
 difference is made small by leaving calls out, and printed in readable form; then the status is 1.
 """
-import copy, os, platform, random, subprocess, sys
+import copy, os, platform, random, shutil, subprocess, sys
 from calls import Run, answer_bytes, answer_line, answers, call_bytes, call_line, list_bytes
 from model import IDLE, Config, Entry, Handler, Header, Request, be
 
 ROOT = os.path.join(os.path.dirname(os.path.abspath(__file__)), '..')
-KIT = os.environ.get('RATTLE_HOME', '/opt/rattle')
+KIT = os.environ.get('RATTLE_HOME') or os.path.dirname(os.path.dirname(os.path.realpath(shutil.which('rt') or '')))
 
 
 # ---- random calls, most of them sensible for the state that the model is in
@@ -47,6 +47,10 @@ def some_put(rng, size):
     request = Request(to, mode, closure)
     names = [some_name(rng), some_name(rng)]
     S = min(size, rng.choice([0, 1, 2, 5, 16, 40, 40, 64, 100, 128, 300]) + rng.randrange(3))
+    if size > 1000 and rng.random() < 0.6:
+        S = rng.randrange(size + 1)
+        for e in entries:
+            e.packet, e.segment = rng.choice([500, 1024, 4095, 4096]), rng.choice([300, 1000, 4000, 4096, 10 ** 6])
     while rng.random() < 0.12:
         spoil = rng.randrange(11)
         e = rng.choice(entries)
@@ -247,7 +251,7 @@ def main():
     calls = puts = 0
     for k in range(count):
         rng = random.Random(seed * 1000003 + k)
-        run = random_run(rng, '', 48000, rng.choice([5, 64, 200, 300, 300]))
+        run = random_run(rng, '', 48000, rng.choice([5, 64, 200, 300, 300, 6000]))
         if differs(program, run):
             print('list %d differs' % k)
             show(program, run)
