@@ -153,7 +153,7 @@ p.put(6, names=(b'\xc0\x80', b'b')).put(6, names=(b'\xed\xa0\x80', b'b')).put(7,
 p = Pass('put, AlreadyBusy to PacketLimit, each with a later cause', packet=40).put()
 p.put(1, local=(3, 1)).step().put(1, names=(b'', b'b')).cancel().put(1).reset()
 other = [Entry((1, 3), 4096, 4, 0)]
-for local, to in [((3, 1), (1, 2)), ((1, 256), (1, 2)), ((0, 0), (1, 2)), ((1, 1), (5, 2)), ((1, 1), (2, 65536)), ((8, 1), (1, 256))]:
+for local, to in [((3, 1), (1, 2)), ((1, 256), (1, 2)), ((1, 300), (1, 2)), ((0, 0), (1, 2)), ((1, 1), (5, 2)), ((1, 1), (2, 65536)), ((8, 1), (1, 256))]:
     p.put(2, local=local, to=to, entries=other)
 p.put(3, entries=other, actions=[2] * 16).put(3, entries=[], names=(b'', b'')).put(3, entries=[Entry((1, 2), 40, 4)], count=0)
 p.put(4, packet=4097, names=(b'', b'b')).put(4, packet=2 ** 64 - 1).put(4, segment=0, names=(b'\xff', b'b')).put(0, segment=2 ** 64 - 1).reset()
@@ -184,7 +184,7 @@ for widths in (b'\x20', b'\x02', b'\x43', b'\x76'):
     p.deliver(20, bad)
 p.body(20, b'\x08' + bytes(7)).body(20, b'\x08' + bytes(12)).body(20, b'\x0c' + bytes(3)).body(20, b'\x0c' + bytes(5)).body(20, b'\x0a').body(20, b'\0').body(20, b'\xff')
 crc = p.header(crc=True).to_bytes(ack)
-p.deliver(22, crc).deliver(20, crc[:-1] + bytes([crc[-1] ^ 1])).deliver(20, crc[:-2] + bytes([crc[-2] ^ 128, crc[-1]])).deliver(20, bytes([crc[0] ^ 8]) + crc[1:])
+p.deliver(22, crc).deliver(20, crc[:-1] + bytes([crc[-1] ^ 1])).deliver(20, crc[:-2] + b'\0\0').deliver(20, bytes([crc[0] ^ 8]) + crc[1:])
 p.deliver(20, b'\x2a\0\0\0\1\7\2').deliver(20, b'\x2a\0\1\0\1\7\2\6')
 p.body(21, b'\4').body(21, b'\7').body(21, b'\x09\0', source=9).body(21, b'', file_data=True).body(21, b'\0\0\0\0abc', file_data=True, to_sender=False)
 p.body(21, b'\x06\x51\1', number=(1, 8)).body(21, ack, to_sender=False, destination=3).body(21, b'\4', to_sender=False)
@@ -266,7 +266,7 @@ p = Pass('cancel, unacknowledged, in each step; then a second put', unack=True, 
 for step in (METADATA, DATA, EOF, FINISHED):
     p.put().to(step).cancel().step(last='eof-sent').at(IDLE)
 p.put().to(CLOSING).cancel(False).step(last='finished').at(IDLE).put().step(2)
-p = Pass('cancel, other id or number; by value whatever the width').put().step(2).cancel(False, source=(1, 2)).cancel(False, number=(1, 8)).cancel(False, number=(1, 6)).cancel(False, source=(1, 257))
+p = Pass('cancel, other id or number; by value whatever the width').put().step(2).cancel(False, source=(1, 2)).cancel(False, source=(1, 0)).cancel(False, number=(1, 8)).cancel(False, number=(1, 6)).cancel(False, source=(1, 257))
 p.nak((0, 4), (0, 0)).step(want=31, room=3).cancel(source=(8, 1), number=(3, 7)).step(pdu='20 00 0A 00 01 07 02 04 F0 41 42 43 44 00 00 00 04').step(last='')
 p = Pass('cancel EOF, modular sum of a padded word', file=b'\xff\xfe\xfd\xfc\xfb\xfa\xf9', segment=3).put().step(2).cancel()
 p.step(pdu='20 00 0A 00 01 07 02 04 F0 FF FE FD 00 00 00 00 03').step(expired=1, pdu='20 00 0A 00 01 07 02 04 F0 FF FE FD 00 00 00 00 03')

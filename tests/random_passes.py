@@ -3,15 +3,14 @@
 
     python3 tests/random_passes.py N SEED [PROGRAM]
 
-N lists, each of about 48,000 bytes: a hundred and more transactions on one handler over one file. PROGRAM is target/bin/drive if not given. The first
+N lists, each of about 48,000 bytes: some sixty transactions on one handler over one file. PROGRAM is target/bin/drive if not given. The first
 difference is made small by leaving calls out, and printed in readable form; then the status is 1.
 """
-import copy, os, platform, random, shutil, subprocess, sys
+import copy, os, platform, random, subprocess, sys
 from calls import Run, answer_bytes, answer_line, answers, call_bytes, call_line, list_bytes
 from model import IDLE, Config, Entry, Handler, Header, Request, be
 
 ROOT = os.path.join(os.path.dirname(os.path.abspath(__file__)), '..')
-KIT = os.environ.get('RATTLE_HOME') or os.path.dirname(os.path.dirname(os.path.realpath(shutil.which('rt') or '')))
 
 
 # ---- random calls, most of them sensible for the state that the model is in
@@ -183,17 +182,22 @@ def random_run(rng, label, budget, size=None, room=60000):
 
 # ---- the program
 
+def kit():
+    """The kit's folder, two above the guide that rt names."""
+    return os.environ.get('RATTLE_HOME') or os.path.dirname(os.path.dirname(subprocess.check_output(['rt', 'doc'], text=True).strip()))
+
+
 def command(program):
     """Programs are for x86-64 and run under the kit's loader and C library; on another processor the kit has an emulator beside its compiler."""
-    tools = os.path.join(KIT, 'on', platform.machine(), 'toolchain')
-    emulator = os.path.join(tools, 'bin', 'qemu-x86_64')
-    lib = os.path.join(tools, 'lib')
+    tools = os.path.join(kit(), 'on', platform.machine(), 'toolchain')
+    emulator, lib = os.path.join(tools, 'bin', 'qemu-x86_64'), os.path.join(tools, 'lib')
     start = [emulator] if os.path.exists(emulator) else []
     return start + [os.path.join(lib, 'ld-linux-x86-64.so.2'), '--library-path', lib, program]
 
 
 def driven(program, run):
-    done = subprocess.run(command(program), input=be(4, len(run.file)) + run.file + list_bytes(run), stdout=subprocess.PIPE, check=True)
+    """The program's answers; `program` is the words that start it."""
+    done = subprocess.run(program, input=be(4, len(run.file)) + run.file + list_bytes(run), stdout=subprocess.PIPE, check=True)
     return done.stdout
 
 
@@ -247,7 +251,7 @@ def show(program, run):
 
 def main():
     count, seed = int(sys.argv[1]), int(sys.argv[2])
-    program = os.path.abspath(sys.argv[3] if len(sys.argv) > 3 else os.path.join(ROOT, 'target', 'bin', 'drive'))
+    program = command(os.path.abspath(sys.argv[3] if len(sys.argv) > 3 else os.path.join(ROOT, 'target', 'bin', 'drive')))
     calls = puts = 0
     for k in range(count):
         rng = random.Random(seed * 1000003 + k)
