@@ -1,0 +1,62 @@
+// Arguments and the files that they name.
+use crate::tell;
+use pdu_read::field::part_of;
+
+pub enum Loaded {
+    Bytes(usize),
+    Unreadable,
+    TooLarge,
+}
+
+// The whole file in front of buf. A read past its end tells the end from a failure, and one that holds more.
+fn read_whole(fd: i32, buf: &mut [u8]) -> Loaded {
+    let n = io::read_full(fd, buf);
+    let mut one = [0u8; 1];
+    let more = libc::read(fd, &mut one);
+    if more == 0 {
+        return Loaded::Bytes(n);
+    }
+    if more < 0 {
+        return Loaded::Unreadable;
+    }
+    if n < buf.len() {
+        return Loaded::Unreadable;
+    }
+    Loaded::TooLarge
+}
+
+fn complain(l: Loaded, name: &[u8], limit: &[u8]) {
+    match l {
+        Loaded::Bytes(_) => {}
+        Loaded::Unreadable => tell::failed(name),
+        Loaded::TooLarge => tell::about(b"", name, limit),
+    }
+}
+
+// The file that argument i names behind its first `skip` bytes. What is wrong with it has been said.
+pub fn load(i: usize, skip: usize, buf: &mut [u8], limit: &[u8]) -> Loaded {
+    let mut word = io::buffer();
+    let n = os::arg(i, &mut word);
+    let name = part_of(&word[..n], skip, n);
+    let fd = os::open_read(name);
+    if fd < 0 {
+        tell::failed(name);
+        return Loaded::Unreadable;
+    }
+    let l = read_whole(fd, buf);
+    complain(l, name, limit);
+    libc::close(fd);
+    l
+}
+
+// A descriptor of the file that argument i names behind "out=", emptied, or -1, and then it has been said.
+pub fn open_out(i: usize) -> i32 {
+    let mut word = io::buffer();
+    let n = os::arg(i, &mut word);
+    let name = part_of(&word[..n], 4, n);
+    let fd = os::open_overwrite(name);
+    if fd < 0 {
+        tell::failed(name);
+    }
+    fd
+}
