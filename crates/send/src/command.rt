@@ -1,4 +1,6 @@
 // From the words to the summary: each function does one thing more and hands on to the next, so that nothing is written before all is well.
+ghost use mathlib.Core.Path.{_≡_};
+ghost use lib.ListN.{length};
 use crate::files;
 use crate::files::Loaded;
 use crate::run;
@@ -65,8 +67,15 @@ pub fn command(n: usize) {
 
 // ---- files
 
+// Room for the largest file.
+fn room() -> [u8; 1048576]
+    ensures { λ r. ⌜ 1048576 ≡ length r ⌝ }
+{
+    [0; 1048576]
+}
+
 fn with_words(w: Words) {
-    let mut file = [0u8; 1048576];
+    let mut file = room();
     match files::load(1, 0, &mut file, b": larger than 1048576 bytes") {
         Loaded::Bytes(n) => with_file(w, part_of(&file, 0, n)),
         Loaded::Unreadable => {}
@@ -87,7 +96,7 @@ fn with_file(w: Words, file: &[u8]) {
 }
 
 fn with_answers(w: Words, file: &[u8], answers: &[u8]) {
-    let f = run::frames(answers);
+    let f = run::frames_in(answers);
     if !f.whole {
         tell::line(b"send: the last answer is cut short; nothing was sent\n");
         return;
@@ -151,7 +160,7 @@ fn with_state(w: Words, s: State, file: &[u8], answers: &[u8], count: u64) {
             form: w.form,
             timed: w.timed,
         };
-        return summary(run::pass(s, file, answers, o), count);
+        return summary(run::to_the_end(s, file, answers, o), count);
     }
     let fd = files::open_out(w.out);
     if fd < 0 {
@@ -162,7 +171,7 @@ fn with_state(w: Words, s: State, file: &[u8], answers: &[u8], count: u64) {
         form: w.form,
         timed: w.timed,
     };
-    summary(run::pass(s, file, answers, o), count);
+    summary(run::to_the_end(s, file, answers, o), count);
     closed(libc::close(fd));
 }
 
@@ -180,7 +189,8 @@ fn left_over(count: u64, delivered: u64) {
 
 fn summary(t: Pass, count: u64) {
     let tally = t.tally;
-    let step = t.state.step;
+    let s = t.state;
+    let step = s.step;
     tell::summary(tally);
     tell::waits(step);
     left_over(count, t.delivered);

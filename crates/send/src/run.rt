@@ -119,7 +119,7 @@ pub struct Frames {
     pub whole: bool,
 }
 
-pub fn frames(s: &[u8]) -> Frames {
+pub fn frames_in(s: &[u8]) -> Frames {
     let mut at: usize = 0;
     let mut count: u64 = 0;
     while count < 65536 {
@@ -311,7 +311,7 @@ fn started(s: State) -> Pass {
 }
 
 // Nothing says that a pass ends, so the turns are counted, from a number that no pass uses up.
-pub fn pass(s: State, file: &[u8], answers: &[u8], o: Output) -> Pass {
+pub fn to_the_end(s: State, file: &[u8], answers: &[u8], o: Output) -> Pass {
     let mut t = started(s);
     let mut turns: u64 = 18446744073709551615;
     while turns > 0 {

@@ -68,12 +68,12 @@ pub fn hex_bytes(out: &mut [u8], at: usize, s: &[u8]) -> usize {
 
 // Blanks up to a column, one at least.
 pub fn gap(out: &mut [u8], at: usize, column: usize) -> usize {
+    let n = up_to(at, column);
     let mut p = put(out, at, b' ');
-    while p < column {
-        if p >= out.len() {
-            return p;
-        }
+    let mut i = 1;
+    while i < n {
         p = put(out, p, b' ');
+        i += 1;
     }
     p
 }

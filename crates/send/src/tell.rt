@@ -162,16 +162,20 @@ fn sum_text(out: &mut [u8], at: usize, t: Tally) -> usize {
     say::text(out, at, b"no EOF")
 }
 
-fn summary_text(out: &mut [u8], t: Tally) -> usize {
+fn count_text(out: &mut [u8], t: Tally) -> usize {
     let p = say::text(out, 0, b"send: ");
     let q = say::decimal(out, p, t.pdus);
     let r = say::text(out, q, b" PDUs, ");
     let s = say::decimal(out, r, t.bytes);
-    let u = say::text(out, s, b" bytes, ");
-    let v = say::decimal(out, u, t.repairs);
-    let x = say::text(out, v, b" repairs, ");
-    let y = sum_text(out, x, t);
-    say::text(out, y, b"\n")
+    say::text(out, s, b" bytes, ")
+}
+
+fn summary_text(out: &mut [u8], t: Tally) -> usize {
+    let p = count_text(out, t);
+    let q = say::decimal(out, p, t.repairs);
+    let r = say::text(out, q, b" repairs, ");
+    let s = sum_text(out, r, t);
+    say::text(out, s, b"\n")
 }
 
 pub fn summary(t: Tally) {

@@ -1,4 +1,7 @@
 // The words of the command line, over slices. Any bytes at all are taken; what is no word, or no value of its word, is answered so.
+ghost use mathlib.Core.Path.{_≡_};
+ghost use Prim.Native.Nat.{_+_, _-_, _*_};
+ghost use Rattle.send.specs.Decimal.{isDigit, fitting, moreOf, numberIn};
 use pdu_read::field::part_of;
 
 // What the words ask for. A name is kept as the number of its argument, 0 where none was given.
@@ -59,31 +62,56 @@ pub enum Parsed {
     Not,
 }
 
-// The value so far with one digit more; what is no digit, or goes past 2^64 - 1, is no number.
-fn more(p: Parsed, b: u8) -> Parsed {
+fn is_digit(b: u8) -> bool
+    ensures { λ r. ⌜ r ≡ isDigit b ⌝ }
+{
+    if b < b'0' {
+        return false;
+    }
+    b <= b'9'
+}
+
+fn digit(b: u8) -> u64
+    ensures { λ r. ⌜ r ≡ b - 48 ⌝ }
+{
+    if b < b'0' {
+        return 0;
+    }
+    basis::wide(b - b'0')
+}
+
+// The value v with the digit d behind it, where that is below 2^64.
+fn fitted(v: u64, d: u64) -> Parsed
+    ensures { λ r. ⌜ r ≡ fitting (v * 10 + d) ⌝ }
+{
+    if v > 1844674407370955161 {
+        return Parsed::Not;
+    }
+    if v * 10 > 18446744073709551615 - d {
+        return Parsed::Not;
+    }
+    Parsed::Is(v * 10 + d)
+}
+
+// The number so far with one byte more.
+fn more(p: Parsed, b: u8) -> Parsed
+    ensures { λ r. ⌜ r ≡ moreOf p b ⌝ }
+{
     match p {
         Parsed::Not => Parsed::Not,
         Parsed::Is(v) => {
-            if b < 48 {
-                return Parsed::Not;
+            if is_digit(b) {
+                return fitted(v, digit(b));
             }
-            if b > 57 {
-                return Parsed::Not;
-            }
-            let d = basis::wide(b - 48);
-            if v > 1844674407370955161 {
-                return Parsed::Not;
-            }
-            if v * 10 > 18446744073709551615 - d {
-                return Parsed::Not;
-            }
-            Parsed::Is(v * 10 + d)
+            Parsed::Not
         }
     }
 }
 
 // A decimal number below 2^64; an empty word is none.
-pub fn number(s: &[u8]) -> Parsed {
+pub fn number(s: &[u8]) -> Parsed
+    ensures { λ r. ⌜ r ≡ numberIn (now (s .entry)) ⌝ }
+{
     if s.len() == 0 {
         return Parsed::Not;
     }
