@@ -1,6 +1,4 @@
 // From the words to the summary: each function does one thing more and hands on to the next, so that nothing is written before all is well.
-ghost use mathlib.Core.Path.{_≡_};
-ghost use lib.ListN.{length};
 use crate::files;
 use crate::files::Loaded;
 use crate::run;
@@ -67,17 +65,14 @@ pub fn command(n: usize) {
 
 // ---- files
 
-// Room for the largest file.
-fn room() -> [u8; 1048576]
-    ensures { λ r. ⌜ 1048576 ≡ length r ⌝ }
-{
-    [0; 1048576]
+fn with_words(w: Words) {
+    let mut file = [0u8; 1048576];
+    with_room(w, &mut file);
 }
 
-fn with_words(w: Words) {
-    let mut file = room();
-    match files::load(1, 0, &mut file, b": larger than 1048576 bytes") {
-        Loaded::Bytes(n) => with_file(w, part_of(&file, 0, n)),
+fn with_room(w: Words, file: &mut [u8; 1048576]) {
+    match files::load(1, 0, file, b": larger than 1048576 bytes") {
+        Loaded::Bytes(n) => with_file(w, part_of(file, 0, n)),
         Loaded::Unreadable => {}
         Loaded::TooLarge => {}
     }
