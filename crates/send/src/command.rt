@@ -55,6 +55,13 @@ fn arguments(n: usize) -> Taken {
     t
 }
 
+// Whether the file's place is taken by a call for help.
+pub fn helps() -> bool {
+    let mut word = io::buffer();
+    let n = os::arg(1, &mut word);
+    words::is(&word[..n], b"--help")
+}
+
 pub fn command(n: usize) {
     match arguments(n) {
         Taken::With(w) => with_words(w),
@@ -112,7 +119,10 @@ fn source_of(w: Words) -> Value {
     if w.source == 0 {
         return Value { i: 1, skip: 0 };
     }
-    Value { i: w.source, skip: 7 }
+    Value {
+        i: w.source,
+        skip: 7,
+    }
 }
 
 // The source's name unless another is given.
@@ -178,7 +188,13 @@ fn closed(status: i32) {
 
 fn left_over(count: u64, delivered: u64) {
     if delivered < count {
-        tell::numbers(b"send: ", count - delivered, b" of ", count, b" answers were not used");
+        tell::numbers(
+            b"send: ",
+            count - delivered,
+            b" of ",
+            count,
+            b" answers were not used",
+        );
     }
 }
 

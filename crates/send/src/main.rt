@@ -12,5 +12,9 @@ fn main() {
         tell::usage();
         return;
     }
+    if command::helps() {
+        tell::usage();
+        return;
+    }
     command::command(n);
 }

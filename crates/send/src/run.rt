@@ -9,6 +9,7 @@ use pdu_read::field::part_of;
 use rules::Answer;
 use rules::Choice;
 use rules::EntityId;
+use rules::Events;
 use rules::LocalEntityConfig;
 use rules::PutRequest;
 use rules::RemoteEntityConfig;
@@ -32,14 +33,13 @@ pub struct Tally {
     pub sum: u64,
 }
 
-// The handler, the answers' place and how many were delivered, the timer, whether to go on, whether all could be written.
+// The handler, the answers' place and how many were delivered, the timer, whether to go on.
 pub struct Pass {
     pub state: State,
     pub at: usize,
     pub delivered: u64,
     pub expired: bool,
     pub going: bool,
-    pub written: bool,
     pub tally: Tally,
 }
 
@@ -192,23 +192,31 @@ fn progress(pdus: u64, done: u64, size: u64) {
     }
 }
 
-fn emitted(t: Pass, s: State, pdu: &[u8], repair: bool, o: Output) -> Pass {
-    let ok = written(o, pdu, repair);
+fn emitted(t: Pass, s: State, e: Events, pdu: &[u8], repair: bool, o: Output) -> Pass {
     let tally = t.tally;
-    if !ok {
-        tell::numbers(b"send: PDU ", say::plus(tally.pdus, 1), b" could not be written; whole ones before it: ", tally.pdus, b"");
-        return Pass { state: s, at: t.at, delivered: t.delivered, expired: false, going: false, written: false, tally: tally };
+    if written(o, pdu, repair) {
+        tell::events(e);
+        let more = counted(tally, pdu, repair);
+        progress(more.pdus, s.file.progress, s.fixed.size);
+        return Pass {
+            state: s,
+            at: t.at,
+            delivered: t.delivered,
+            expired: false,
+            going: true,
+            tally: more,
+        };
     }
-    let more = counted(tally, pdu, repair);
-    progress(more.pdus, s.file.progress, s.fixed.size);
-    Pass { state: s, at: t.at, delivered: t.delivered, expired: false, going: true, written: true, tally: more }
+    tell::cut_short(tally.pdus);
+    let before = t.state;
+    ended(t, before)
 }
 
 // ---- what comes
 
 fn heard(out: &mut [u8], pdu: &[u8], a: Answer) -> usize {
     let p = say::text(out, 0, b"<- ");
-    let q = say::hex_bytes(out, p, pdu);
+    let q = say::hex_front(out, p, pdu);
     let r = say::gap(out, q, 44);
     let s = say::received(out, r, pdu);
     let t = say::answer(out, s, a);
@@ -241,9 +249,19 @@ fn answered(t: Pass, s: State, answers: &[u8], o: Output) -> Pass {
     let next = d.state;
     let k = say::plus(t.delivered, 1);
     said(k, a);
-    let ok = shown(o, pdu, a);
     let tally = t.tally;
-    Pass { state: next, at: next_frame(answers, at), delivered: k, expired: false, going: ok, written: ok, tally: tally }
+    if shown(o, pdu, a) {
+        return Pass {
+            state: next,
+            at: next_frame(answers, at),
+            delivered: k,
+            expired: false,
+            going: true,
+            tally: tally,
+        };
+    }
+    tell::cut_short(tally.pdus);
+    ended(t, next)
 }
 
 // ---- the loop
@@ -262,7 +280,14 @@ fn is_idle(s: TransactionStep) -> bool {
 
 fn ended(t: Pass, s: State) -> Pass {
     let tally = t.tally;
-    Pass { state: s, at: t.at, delivered: t.delivered, expired: t.expired, going: false, written: t.written, tally: tally }
+    Pass {
+        state: s,
+        at: t.at,
+        delivered: t.delivered,
+        expired: t.expired,
+        going: false,
+        tally: tally,
+    }
 }
 
 // After a step that emitted nothing.
@@ -278,7 +303,14 @@ fn quiet(t: Pass, s: State, answers: &[u8], o: Output) -> Pass {
         return ended(t, s);
     }
     let tally = t.tally;
-    Pass { state: s, at: t.at, delivered: t.delivered, expired: o.timed, going: o.timed, written: t.written, tally: tally }
+    Pass {
+        state: s,
+        at: t.at,
+        delivered: t.delivered,
+        expired: o.timed,
+        going: o.timed,
+        tally: tally,
+    }
 }
 
 fn stepped(t: Pass, file: &[u8], answers: &[u8], o: Output) -> Pass {
@@ -290,7 +322,6 @@ fn stepped(t: Pass, file: &[u8], answers: &[u8], o: Output) -> Pass {
     let e = d.events;
     let next = d.state;
     let n = d.length;
-    tell::events(e);
     match a {
         Answer::Refused(r) => {
             tell::refused(b"step", r);
@@ -298,16 +329,30 @@ fn stepped(t: Pass, file: &[u8], answers: &[u8], o: Output) -> Pass {
         }
         Answer::Accepted => {
             if n == 0 {
+                tell::events(e);
                 return quiet(t, next, answers, o);
             }
-            emitted(t, next, part_of(&space, 0, n), repair, o)
+            emitted(t, next, e, part_of(&space, 0, n), repair, o)
         }
     }
 }
 
 fn started(s: State) -> Pass {
-    let tally = Tally { pdus: 0, bytes: 0, repairs: 0, eof: false, sum: 0 };
-    Pass { state: s, at: 0, delivered: 0, expired: false, going: true, written: true, tally: tally }
+    let tally = Tally {
+        pdus: 0,
+        bytes: 0,
+        repairs: 0,
+        eof: false,
+        sum: 0,
+    };
+    Pass {
+        state: s,
+        at: 0,
+        delivered: 0,
+        expired: false,
+        going: true,
+        tally: tally,
+    }
 }
 
 // Nothing says that a pass ends, so the turns are counted, from a number that no pass uses up.

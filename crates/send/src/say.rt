@@ -66,6 +66,15 @@ pub fn hex_bytes(out: &mut [u8], at: usize, s: &[u8]) -> usize {
     p
 }
 
+// The first 4,096 bytes, with dots for the others.
+pub fn hex_front(out: &mut [u8], at: usize, s: &[u8]) -> usize {
+    let p = hex_bytes(out, at, part_of(s, 0, 4096));
+    if s.len() > 4096 {
+        return text(out, p, b"..");
+    }
+    p
+}
+
 // Blanks up to a column, one at least.
 pub fn gap(out: &mut [u8], at: usize, column: usize) -> usize {
     let n = up_to(at, column);
@@ -279,11 +288,17 @@ pub fn sum_of(pdu: &[u8]) -> Sum {
 fn request(out: &mut [u8], at: usize, r: SegmentRequest) -> usize {
     if r.end == 0 {
         if r.start == 0 {
-            return text(out, at, b" metadata");
+            return text(out, at, b"metadata");
         }
     }
-    let p = text(out, at, b" ");
-    range(out, p, r.start, r.end)
+    range(out, at, r.start, r.end)
+}
+
+fn comma(out: &mut [u8], at: usize, k: usize) -> usize {
+    if k == 0 {
+        return text(out, at, b" ");
+    }
+    text(out, at, b", ")
 }
 
 // The first requests, eight at most; the first stands at `first`.
@@ -296,6 +311,7 @@ fn requests(out: &mut [u8], at: usize, pdu: &[u8], large: bool, first: usize, n:
         if k >= 8 {
             return text(out, p, b" and more");
         }
+        p = comma(out, p, k);
         p = request(out, p, request_at(pdu, large, q));
         q = on(q, w);
         k += 1;
@@ -306,10 +322,8 @@ fn requests(out: &mut [u8], at: usize, pdu: &[u8], large: bool, first: usize, n:
 fn nak(out: &mut [u8], at: usize, pdu: &[u8], f: Frame, n: usize) -> usize {
     let large = f.head.large;
     let first = on(f.start, 1 + 2 * size_width(large));
-    let p = text(out, at, b"NAK, ");
-    let q = decimal(out, p, n as u64);
-    let r = text(out, q, b" requests:");
-    requests(out, r, pdu, large, first, n)
+    let p = text(out, at, b"NAK for");
+    requests(out, p, pdu, large, first, n)
 }
 
 fn received_in(out: &mut [u8], at: usize, pdu: &[u8], f: Frame, m: Meaning) -> usize {

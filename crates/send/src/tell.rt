@@ -36,6 +36,19 @@ pub fn failed(s: &[u8]) {
     os::fail(s);
 }
 
+fn cut_text(out: &mut [u8], n: u64) -> usize {
+    let p = say::text(out, 0, b"send: the output ends after ");
+    let q = say::decimal(out, p, n);
+    say::text(out, q, b" whole PDUs")
+}
+
+// A write failed: how much there is, and the system's reason.
+pub fn cut_short(n: u64) {
+    let mut out = [0u8; 96];
+    let k = cut_text(&mut out, n);
+    os::fail(part_of(&out, 0, k));
+}
+
 fn refusal_text(out: &mut [u8], what: &[u8], r: Refusal) -> usize {
     let p = say::text(out, 0, b"send: ");
     let q = say::text(out, p, what);
@@ -50,7 +63,14 @@ pub fn refused(what: &[u8], r: Refusal) {
     io::write_all(STDERR_FILENO, part_of(&out, 0, n));
 }
 
-fn numbered_text(out: &mut [u8], before: &[u8], n: u64, between: &[u8], m: u64, after: &[u8]) -> usize {
+fn numbered_text(
+    out: &mut [u8],
+    before: &[u8],
+    n: u64,
+    between: &[u8],
+    m: u64,
+    after: &[u8],
+) -> usize {
     let p = say::text(out, 0, before);
     let q = say::decimal(out, p, n);
     let r = say::text(out, q, between);
@@ -104,7 +124,11 @@ fn fault_text(out: &mut [u8], a: u8, c: u8, progress: u64) -> usize {
 fn fault(f: FaultEvent) {
     match f {
         FaultEvent::NoFault => {}
-        FaultEvent::Fault { action, condition, progress } => {
+        FaultEvent::Fault {
+            action,
+            condition,
+            progress,
+        } => {
             let mut out = [0u8; 128];
             let n = fault_text(&mut out, action, condition, progress);
             io::write_all(STDERR_FILENO, part_of(&out, 0, n));
@@ -131,7 +155,13 @@ fn finished(f: FinishedEvent) {
 
 fn begun(transaction: bool, source: u64, number: u64) {
     if transaction {
-        numbers(b"send: transaction begun, source ", source, b" number ", number, b"");
+        numbers(
+            b"send: transaction begun, source ",
+            source,
+            b" number ",
+            number,
+            b"",
+        );
     }
 }
 
@@ -198,7 +228,11 @@ pub fn waits(s: TransactionStep) {
 }
 
 pub fn usage() {
-    line(b"usage: send FILE [from=1] [to=2] [number=7] [idwidth=1] [seqwidth=1] [mode=unacknowledged|acknowledged]\n");
-    line(b"    [closure=yes|no] [crc=yes|no] [checksum=modular|crc32c|crc32|null] [segment=1024] [packet=1024]\n");
+    line(
+        b"usage: send FILE [from=1] [to=2] [number=7] [idwidth=1] [seqwidth=1] [mode=unacknowledged|acknowledged]\n",
+    );
+    line(
+        b"    [closure=yes|no] [crc=yes|no] [checksum=modular|crc32c|crc32|null] [segment=1024] [packet=1024]\n",
+    );
     line(b"    [source=NAME] [dest=NAME] [limit=N] [out=FILE] [answers=FILE] [--hex] [--say]\n");
 }

@@ -57,7 +57,7 @@ pub enum Taken {
     BadValue,
 }
 
-pub enum Parsed {
+enum Parsed {
     Is(u64),
     Not,
 }
@@ -109,7 +109,7 @@ fn more(p: Parsed, b: u8) -> Parsed
 }
 
 // A decimal number below 2^64; an empty word is none.
-pub fn number(s: &[u8]) -> Parsed
+fn number(s: &[u8]) -> Parsed
     ensures { λ r. ⌜ r ≡ numberIn (now (s .entry)) ⌝ }
 {
     if s.len() == 0 {
@@ -124,7 +124,7 @@ pub fn number(s: &[u8]) -> Parsed
     p
 }
 
-fn is(s: &[u8], name: &[u8]) -> bool {
+pub fn is(s: &[u8], name: &[u8]) -> bool {
     if s.len() != name.len() {
         return false;
     }

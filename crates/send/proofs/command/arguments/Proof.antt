@@ -4,10 +4,6 @@ use Prim.Native.Nat.{_-_}
 use borrow.Author.Needs.{needs}
 use Rattle.send.proofs.command.arguments.Statement.{statement}
 use Rattle.send.proofs.command.arguments.Tie as tie
-use Rattle.send.proofs.command.arguments.Reads as reads
-use Rattle.send.proofs.command.arguments.Lts as lts
-use Rattle.send.proofs.command.then.Reads as then-reads
-use Rattle.send.proofs.words.defaults.Reads as defaults-reads
 
 abbrev Inv-loop : tie.InvT-loop
 Inv-loop n t₀ i₀ t i = Unit {0}
@@ -15,31 +11,24 @@ Inv-loop n t₀ i₀ t i = Unit {0}
 abbrev μ-loop : tie.MeasureT-loop
 μ-loop n t₀ i₀ t i = n - i
 
--- src/command.rt:49:29
 defaults-requires : tie.Need-defaults-requires Inv-loop μ-loop
 defaults-requires c κs = search needs
 
--- src/command.rt:51:5
 loop-holds : tie.Need-loop-holds Inv-loop μ-loop
 loop-holds c = search needs
 
--- src/command.rt:52:9
 then-requires : tie.Need-then-requires Inv-loop μ-loop
 then-requires c κs = search needs
 
--- src/command.rt:53:9
 add-i : tie.Need-add-i Inv-loop μ-loop
 add-i c = search needs
 
--- src/command.rt:51:5
 loop-less : tie.Need-loop-less Inv-loop μ-loop
 loop-less c = search needs
 
--- src/command.rt:51:5
 loop-again : tie.Need-loop-again Inv-loop μ-loop
 loop-again c = search needs
 
--- src/command.rt:48:1
 returns : tie.Need-returns Inv-loop μ-loop
 returns c = search needs
 

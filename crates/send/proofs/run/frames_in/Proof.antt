@@ -4,9 +4,6 @@ use Prim.Native.Nat.{_-_}
 use borrow.Author.Needs.{needs}
 use Rattle.send.proofs.run.frames_in.Statement.{statement}
 use Rattle.send.proofs.run.frames_in.Tie as tie
-use Rattle.send.proofs.run.frames_in.Reads as reads
-use Rattle.send.proofs.run.frames_in.Lts as lts
-use Rattle.send.proofs.run.next_frame.Reads as next-frame-reads
 
 abbrev Inv-loop : tie.InvT-loop
 Inv-loop s at₀ count₀ at count = Unit {0}
@@ -14,27 +11,21 @@ Inv-loop s at₀ count₀ at count = Unit {0}
 abbrev μ-loop : tie.MeasureT-loop
 μ-loop s at₀ count₀ at count = 65536 - count
 
--- src/run.rt:125:5
 loop-holds : tie.Need-loop-holds Inv-loop μ-loop
 loop-holds c = search needs
 
--- src/run.rt:129:9
 next-frame-requires : tie.Need-next-frame-requires Inv-loop μ-loop
 next-frame-requires c κs = search needs
 
--- src/run.rt:130:9
 add-count : tie.Need-add-count Inv-loop μ-loop
 add-count c = search needs
 
--- src/run.rt:125:5
 loop-less : tie.Need-loop-less Inv-loop μ-loop
 loop-less c = search needs
 
--- src/run.rt:125:5
 loop-again : tie.Need-loop-again Inv-loop μ-loop
 loop-again c = search needs
 
--- src/run.rt:122:1
 returns : tie.Need-returns Inv-loop μ-loop
 returns c = search needs
 

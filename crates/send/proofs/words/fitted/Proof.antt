@@ -4,34 +4,25 @@ use Rattle.send.proofs.Digits.{fitting-is, fitting-not}
 use borrow.Author.Needs.{needs}
 use Rattle.send.proofs.words.fitted.Statement.{statement}
 use Rattle.send.proofs.words.fitted.Tie as tie
-use Rattle.send.proofs.words.fitted.Reads as reads
-use Rattle.send.proofs.words.fitted.Lts as lts
 
--- src/words.rt:88:9
 returns : tie.Need-returns
 returns c = fitting-not _ (search needs)
 
--- src/words.rt:90:8
 mul-if2 : tie.Need-mul-if2
 mul-if2 c = search needs
 
--- src/words.rt:90:17
 sub-if2 : tie.Need-sub-if2
 sub-if2 c = search needs
 
--- src/words.rt:91:9
 returns-2 : tie.Need-returns-2
 returns-2 c = fitting-not _ (search needs)
 
--- src/words.rt:93:16
 mul-t4 : tie.Need-mul-t4
 mul-t4 c = search needs
 
--- src/words.rt:93:16
 add-t5 : tie.Need-add-t5
 add-t5 c = search needs
 
--- src/words.rt:84:1
 returns-3 : tie.Need-returns-3
 returns-3 c = fitting-is _ (search needs)
 

@@ -4,15 +4,11 @@ use Rattle.basis.proofs.Pick.{picks}
 use Rattle.send.specs.Decimal.{isDigit}
 use Rattle.send.proofs.words.is_digit.Statement.{statement}
 use Rattle.send.proofs.words.is_digit.Tie as tie
-use Rattle.send.proofs.words.is_digit.Reads as reads
-use Rattle.send.proofs.words.is_digit.Lts as lts
 
--- src/words.rt:69:9
 returns : tie.Need-returns
 unfolding isDigit
 returns c = search picks depth 6
 
--- src/words.rt:65:1
 returns-2 : tie.Need-returns-2
 unfolding isDigit
 returns-2 c = search picks depth 6

@@ -5,45 +5,32 @@ use Rattle.send.specs.Decimal.{moreOf}
 use borrow.Author.Needs.{needs}
 use Rattle.send.proofs.words.more.Statement.{statement}
 use Rattle.send.proofs.words.more.Tie as tie
-use Rattle.send.proofs.words.more.Reads as reads
-use Rattle.send.proofs.words.more.Lts as lts
-use Rattle.send.proofs.words.digit.Reads as digit-reads
-use Rattle.send.proofs.words.fitted.Reads as fitted-reads
-use Rattle.send.proofs.words.is_digit.Reads as is-digit-reads
 
--- src/words.rt:101:24
 enum-told : tie.Need-enum-told
 enum-told c = search needs
 
--- src/words.rt:102:20
 enum-known-p : tie.Need-enum-known-p
 enum-known-p c = search needs
 
--- src/words.rt:103:16
 is-digit-requires : tie.Need-is-digit-requires
 is-digit-requires c κs = search needs
 
--- src/words.rt:104:34
 digit-requires : tie.Need-digit-requires
 digit-requires c κs = search needs
 
--- src/words.rt:104:17
 fitted-requires : tie.Need-fitted-requires
 fitted-requires c κs = search needs
 
--- src/words.rt:104:17
 returns : tie.Need-returns
 unfolding moreOf
 returns c =
     let d = c .before .before .before in
     rw (d .before .before .p .given .1, ← d .is-digit .ensures, c .before .before .if1 .taken, ← c .before .digit .ensures) (c .fitted .ensures)
 
--- src/words.rt:97:1
 returns-2 : tie.Need-returns-2
 unfolding moreOf
 returns-2 c = rw (c .enum-told .given .1) refl
 
--- src/words.rt:97:1
 returns-3 : tie.Need-returns-3
 unfolding moreOf
 returns-3 c = rw (c .before .before .before .p .given .1, ← c .before .is-digit .ensures, c .if1 .left) refl

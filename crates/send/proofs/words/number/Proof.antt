@@ -8,9 +8,6 @@ use Rattle.send.proofs.Digits.{after, after-step, in-all, in-none}
 use borrow.Author.Needs.{needs}
 use Rattle.send.proofs.words.number.Statement.{statement}
 use Rattle.send.proofs.words.number.Tie as tie
-use Rattle.send.proofs.words.number.Reads as reads
-use Rattle.send.proofs.words.number.Lts as lts
-use Rattle.send.proofs.words.more.Reads as more-reads
 
 abbrev Inv-loop : tie.InvT-loop
 Inv-loop s p₀ i₀ p i = after p (drop i s) ≡ after (Is 0) s
@@ -18,35 +15,27 @@ Inv-loop s p₀ i₀ p i = after p (drop i s) ≡ after (Is 0) s
 abbrev μ-loop : tie.MeasureT-loop
 μ-loop s p₀ i₀ p i = length s - i
 
--- src/words.rt:94:9
 returns : tie.Need-returns Inv-loop μ-loop
 returns c = in-none _ (c .if1 .taken)
 
--- src/words.rt:98:5
 loop-holds : tie.Need-loop-holds Inv-loop μ-loop
 loop-holds c = search needs
 
--- src/words.rt:99:21
 shared-slice-read-more : tie.Need-shared-slice-read-more Inv-loop μ-loop
 shared-slice-read-more c = search needs
 
--- src/words.rt:99:9
 more-requires : tie.Need-more-requires Inv-loop μ-loop
 more-requires c κs = search needs
 
--- src/words.rt:100:9
 add-i : tie.Need-add-i Inv-loop μ-loop
 add-i c = search needs
 
--- src/words.rt:98:5
 loop-less : tie.Need-loop-less Inv-loop μ-loop
 loop-less c = search needs
 
--- src/words.rt:98:5
 loop-again : tie.Need-loop-again Inv-loop μ-loop
 loop-again c = cc (after-step _ _ _ (c .before .before .loop-test .taken))
 
--- src/words.rt:90:1
 returns-2 : tie.Need-returns-2 Inv-loop μ-loop
 returns-2 c = rw (drop-of-length-le _ (c .loop-test .left)) at (c .before .loop .inv) ∙ in-all _ (c .before .before .if1 .left)
 
