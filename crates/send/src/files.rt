@@ -25,11 +25,11 @@ fn read_whole(fd: i32, buf: &mut [u8]) -> Loaded {
     Loaded::TooLarge
 }
 
-fn complain(l: Loaded, name: &[u8], limit: &[u8]) {
+fn complain(l: Loaded, word: &[u8], limit: &[u8]) {
     match l {
         Loaded::Bytes(_) => {}
-        Loaded::Unreadable => tell::failed(name),
-        Loaded::TooLarge => tell::about(b"", name, limit),
+        Loaded::Unreadable => tell::failed(word),
+        Loaded::TooLarge => tell::about(b"", word, limit),
     }
 }
 
@@ -37,14 +37,13 @@ fn complain(l: Loaded, name: &[u8], limit: &[u8]) {
 pub fn load(i: usize, skip: usize, buf: &mut [u8], limit: &[u8]) -> Loaded {
     let mut word = io::buffer();
     let n = os::arg(i, &mut word);
-    let name = part_of(&word[..n], skip, n);
-    let fd = os::open_read(name);
+    let fd = os::open_read(part_of(&word[..n], skip, n));
     if fd < 0 {
-        tell::failed(name);
+        tell::failed(&word[..n]);
         return Loaded::Unreadable;
     }
     let l = read_whole(fd, buf);
-    complain(l, name, limit);
+    complain(l, &word[..n], limit);
     libc::close(fd);
     l
 }
@@ -53,10 +52,9 @@ pub fn load(i: usize, skip: usize, buf: &mut [u8], limit: &[u8]) -> Loaded {
 pub fn open_out(i: usize) -> i32 {
     let mut word = io::buffer();
     let n = os::arg(i, &mut word);
-    let name = part_of(&word[..n], 4, n);
-    let fd = os::open_overwrite(name);
+    let fd = os::open_overwrite(part_of(&word[..n], 4, n));
     if fd < 0 {
-        tell::failed(name);
+        tell::failed(&word[..n]);
     }
     fd
 }

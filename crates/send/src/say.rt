@@ -130,6 +130,13 @@ pub fn condition(out: &mut [u8], at: usize, c: u8) -> usize {
         4 => text(out, at, b"filestore rejection"),
         5 => text(out, at, b"file checksum failure"),
         6 => text(out, at, b"file size error"),
+        _ => condition_from_7(out, at, c),
+    }
+}
+
+// Two matches, because a match is checked in a time that grows faster than its arms.
+fn condition_from_7(out: &mut [u8], at: usize, c: u8) -> usize {
+    match c {
         7 => text(out, at, b"NAK limit reached"),
         8 => text(out, at, b"inactivity detected"),
         9 => text(out, at, b"invalid file structure"),
