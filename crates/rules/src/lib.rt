@@ -3,8 +3,10 @@
 // ---- Numbers
 
 // A width in bytes (1, 2, 4 or 8) and a value that fits it. An entity id can never stand where a sequence number is due.
+#[repr(C)]
 pub struct EntityId(pub u8, pub u64);
 
+#[repr(C)]
 pub struct TransactionSeqNum(pub u8, pub u64);
 
 // ---- PDUs
@@ -40,12 +42,14 @@ pub enum Framed {
 }
 
 // One request of a NAK: the bytes from start up to end.
+#[repr(C)]
 pub struct SegmentRequest {
     pub start: u64,
     pub end: u64,
 }
 
 // A Finished PDU's values.
+#[repr(C)]
 pub struct FinishedParams {
     pub condition: u8,
     pub delivery: u8,
@@ -136,6 +140,7 @@ pub struct Fixed {
 }
 
 // Both names, copied; zeros behind.
+#[repr(C)]
 pub struct Names {
     pub source: [u8; 255],
     pub sourcelen: u8,
@@ -144,6 +149,7 @@ pub struct Names {
 }
 
 // What an EOF says.
+#[repr(C)]
 pub struct Eof {
     pub condition: u8,
     pub sum: u32,
@@ -151,12 +157,14 @@ pub struct Eof {
 }
 
 // First-pass bytes sent, and the last EOF, kept so that it can be sent again.
+#[repr(C)]
 pub struct FileParams {
     pub progress: u64,
     pub eof: Eof,
 }
 
 // Pending requests, the oldest first; the places from `count` on are zero.
+#[repr(C)]
 pub struct Queue {
     pub places: [SegmentRequest; 64],
     pub count: usize,
