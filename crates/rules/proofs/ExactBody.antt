@@ -128,18 +128,36 @@ number w s y l =
       length-drop w s,
     )
 
+-- two numbers in front of the rest; over a plain width, so that no product stands in the arithmetic
+two-numbers : (w m : ℕ) (s : List ℕ) → Bytes s → length s ≡ w + (w + m)
+    → (u : ℕ) × (v : ℕ) × (rest : List ℕ) × (u < 2 ^ (8 * w)) × (v < 2 ^ (8 * w)) × (be w u ++ (be w v ++ rest) ≡ s) × Bytes rest × (length rest ≡ m)
+two-numbers w m s y e =
+    let a = number w s y (omega (arith, e)) in
+    let b = number w (a .1) (a .4) (omega (arith, e, a .5)) in (
+      a .0,
+      b .0,
+      b .1,
+      a .2,
+      b .2,
+      ap (λ (l : List ℕ). be w (a .0) ++ l) (b .3) ∙ a .3,
+      b .4,
+      omega (arith, e, a .5, b .5),
+    )
+
+one-more : (w k : ℕ) → 2 * w * suc k ≡ w + (w + 2 * w * k)
+one-more w k = omega arith
+
 requests-in : (large : Bool) (k : ℕ) (s : List ℕ) → Bytes s → length s ≡ 2 * F large * k
     → (rs : List SegmentRequest) × (length rs ≡ k) × RequestsFit large rs × (wire (requestFields large rs) ≡ s)
 requests-in large zero [] y e = ([], refl, tt, refl)
 requests-in large zero (b ∷ s) y e = absurd (omega arith)
 requests-in large (suc k) s y e =
-    let a = number (F large) s y (omega arith) in
-    let b = number (F large) (a .1) (a .4) (omega (arith, a .5)) in
-    let r = requests-in large k (b .1) (b .4) (omega (arith, a .5, b .5)) in (
-      record { start = a .0; end = b .0 } ∷ r .0,
+    let a = two-numbers (F large) (2 * F large * k) s y (e ∙ one-more (F large) k) in
+    let r = requests-in large k (a .2) (a .6) (a .7) in (
+      record { start = a .0; end = a .1 } ∷ r .0,
       rw (r .1),
-      (a .2, b .2, r .2),
-      rw (r .3, b .3) (a .3),
+      (a .3, a .4, r .2),
+      rw (r .3) (a .5),
     )
 
 tlvs-in : {s : List ℕ} → Tlvs s → Bytes s → (ts : List (ℕ × List ℕ)) × GoodTlvs ts × (wire (tlvFields ts) ≡ s)
@@ -198,11 +216,10 @@ ack-judged large (a ∷ x ∷ z ∷ s) y =
 nak-given : (large : Bool) (k : ℕ) (s : List ℕ) → Bytes s → length s ≡ 2 * F large + 2 * F large * k → ByLayout large (8 ∷ s) (Means (Nak k))
 unfolding cleared byte
 nak-given large k s y e =
-    let a = number (F large) s y (omega arith) in
-    let b = number (F large) (a .1) (a .4) (omega (arith, a .5)) in
-    let r = requests-in large k (b .1) (b .4) (omega (arith, a .5, b .5)) in
+    let a = two-numbers (F large) (2 * F large * k) s y (omega (arith, e)) in
+    let r = requests-in large k (a .2) (a .6) (a .7) in
     rw (← (r .1))
-    (heard (nak (a .0) (b .0) (r .0)) (a .2, b .2, r .2) (rw (one-byte 8 (omega arith), r .3, b .3, a .3)))
+    (heard (nak (a .0) (a .1) (r .0)) (a .3, a .4, r .2) (rw (one-byte 8 (omega arith), r .3, a .5)))
 
 nak-judged : (large : Bool) (s : List ℕ) → Bytes s → Judged large (8 ∷ s) (nakIn large (8 ∷ s))
 unfolding nakIn requestCount
