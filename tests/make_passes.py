@@ -3,14 +3,13 @@
 
     python3 tests/make_passes.py
 
-The answers are the model's (tests/model.py), none is the handler's; `want` in a scripted run is the answer by hand, and the model is held to it. A run
-in the stream is: length of the label (1), label, length of the file (4), file, length of the list (4), list: as docs/HOST.md has it, but each run of
-1 to 255 zeros is written as a zero and their count, which makes a configuration short.
+The answers are the model's (tests/model.py), none is the handler's; `want` in a scripted run is the answer by hand, and the model is held to it.
 """
-import copy, os, random, re
+import copy, os, random
 from calls import Run, answer_line, answers, list_bytes
 from model import CLOSING, DATA, EOF, EOF_ACK, FINISHED, IDLE, METADATA, Config, Entry, Handler, Header, Request, be
 from random_passes import random_run
+from stream import LIMIT, run_bytes
 
 OUT = os.path.join(os.path.dirname(os.path.abspath(__file__)), '..', 'crates', 'passes')
 FILE = b'ABCDE'
@@ -336,19 +335,10 @@ for k in range(36):
     runs.append(random_run(random.Random(SEED * 1000 + k), f'random {k}', 1100))
 
 
-def coded(data):
-    return re.sub(rb'\0{1,255}', lambda zeros: bytes([0, len(zeros.group())]), data)
-
-
-def stream_bytes(run):
-    label, calls = run.label.encode(), coded(list_bytes(run))
-    return be(1, len(label)) + label + be(4, len(run.file)) + run.file + be(4, len(calls)) + calls
-
-
 if __name__ == '__main__':
     os.makedirs(OUT, exist_ok=True)
-    stream = b''.join(map(stream_bytes, runs))
-    assert len(stream) < 65536, len(stream)
+    stream = b''.join(run_bytes(run.label, run.file, list_bytes(run)) for run in runs)
+    assert len(stream) < LIMIT, len(stream)
     given = [answers(run) for run in runs]
     open(os.path.join(OUT, 'stdin'), 'wb').write(stream)
     with open(os.path.join(OUT, 'stdout'), 'w') as out:

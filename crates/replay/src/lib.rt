@@ -1,18 +1,26 @@
-// Each run of the stream: its label, then the answers.
-use crate::say;
-use crate::take;
+// Runs stored lists of calls, each on a fresh handler, and prints every answer: one line a call. tests/stream.py has the format of the stream. For the
+// programs `passes` and `beside_rust`, which differ in where the runs and what must be printed come from.
+mod say;
+mod take;
+
 use pdu_read::field::part_of;
 
-fn one(file: &[u8], coded: &[u8]) {
+// How an event tells the source id and number: with their widths, or as the Rust does.
+pub enum Ids {
+    Tagged,
+    ByValue,
+}
+
+fn one(file: &[u8], coded: &[u8], ids: Ids) {
     let mut calls = io::large_buffer();
     let n = take::spread(coded, &mut calls);
     let mut answers = io::large_buffer();
     let m = host::tsendrivaty_run(part_of(&calls, 0, n), file, &mut answers);
-    say::lines(part_of(&answers, 0, (m % 4294967296) as usize));
+    say::lines(part_of(&answers, 0, (m % 4294967296) as usize), ids);
 }
 
 // A run is a label behind one byte of length, a file and a list behind four each.
-pub fn all(s: &[u8]) {
+pub fn all(s: &[u8], ids: Ids) {
     let mut at = 0;
     let mut k: u64 = 0;
     while k < 65536 {
@@ -23,7 +31,7 @@ pub fn all(s: &[u8]) {
         let list = take::past(s, file, 4);
         io::write_all(1, take::blob(s, at, 1));
         io::write_all(1, b"\n");
-        one(take::blob(s, file, 4), take::blob(s, list, 4));
+        one(take::blob(s, file, 4), take::blob(s, list, 4), ids);
         at = take::past(s, list, 4);
         k += 1;
     }

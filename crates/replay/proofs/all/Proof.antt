@@ -1,14 +1,14 @@
 -- `all`: safe, and it ends: every turn counts.
 use Prim.Native.Nat.{_-_}
 use borrow.Author.Needs.{needs}
-use Rattle.passes.proofs.run.all.Statement.{statement}
-use Rattle.passes.proofs.run.all.Tie as tie
+use Rattle.replay.proofs.all.Statement.{statement}
+use Rattle.replay.proofs.all.Tie as tie
 
 abbrev Inv-loop : tie.InvT-loop
-Inv-loop s at₀ k₀ t6 t7 at k = Unit {0}
+Inv-loop s ids at₀ k₀ t6 t7 at k = Unit {0}
 
 abbrev μ-loop : tie.MeasureT-loop
-μ-loop s at₀ k₀ t6 t7 at k = 65536 - k
+μ-loop s ids at₀ k₀ t6 t7 at k = 65536 - k
 
 loop-holds : tie.Need-loop-holds Inv-loop μ-loop
 loop-holds c = search needs

@@ -2,14 +2,14 @@
 use Prim.Native.Nat.{_-_}
 use lib.ListN.{length}
 use borrow.Author.Needs.{needs}
-use Rattle.passes.proofs.say.lines.Statement.{statement}
-use Rattle.passes.proofs.say.lines.Tie as tie
+use Rattle.replay.proofs.say.lines.Statement.{statement}
+use Rattle.replay.proofs.say.lines.Tie as tie
 
 abbrev Inv-loop : tie.InvT-loop
-Inv-loop s at₀ k₀ at k = Unit {0}
+Inv-loop s ids at₀ k₀ at k = Unit {0}
 
 abbrev μ-loop : tie.MeasureT-loop
-μ-loop s at₀ k₀ at k = length s - k
+μ-loop s ids at₀ k₀ at k = length s - k
 
 loop-holds : tie.Need-loop-holds Inv-loop μ-loop
 loop-holds c = search needs

@@ -1,4 +1,5 @@
 // One line for each answer of the handler; docs/HOST.md has the format of the answers. A line function answers where the next record begins.
+use crate::Ids;
 use crate::take::length;
 use crate::take::on;
 use pdu_read::field::byte_at;
@@ -65,7 +66,28 @@ fn carried(flags: u8, divisor: u8, name: &[u8], s: &[u8], at: usize, w: usize) -
     on(at, on(2, w))
 }
 
-fn events(s: &[u8], at: usize) -> usize {
+// The Rust's events tell ids by value, and its timers tell none.
+fn by_value(flags: u8, s: &[u8], at: usize) {
+    if flags % 16 == 0 {
+        return;
+    }
+    io::write_all(1, b" of");
+    number(s, on(at, 1), 8);
+    number(s, on(at, 10), 8);
+}
+
+fn whose(flags: u8, s: &[u8], at: usize, ids: Ids) {
+    match ids {
+        Ids::Tagged => {
+            io::write_all(1, b" of");
+            tagged(s, at);
+            tagged(s, on(at, 9));
+        }
+        Ids::ByValue => by_value(flags, s, at),
+    }
+}
+
+fn events(s: &[u8], at: usize, ids: Ids) -> usize {
     let flags = byte_at(s, at);
     if flags == 0 {
         return on(at, 1);
@@ -76,13 +98,11 @@ fn events(s: &[u8], at: usize) -> usize {
     let q = carried(flags, 8, b" finished", s, p, 1);
     word(flags, 16, b" ack-timer");
     word(flags, 32, b" check-timer");
-    io::write_all(1, b" of");
-    tagged(s, on(at, 1));
-    tagged(s, on(at, 10));
+    whose(flags, s, on(at, 1), ids);
     q
 }
 
-fn stepped(s: &[u8], at: usize) -> usize {
+fn stepped(s: &[u8], at: usize, ids: Ids) -> usize {
     io::write_all(1, b"  step");
     number(s, at, 1);
     let n = length(s, on(at, 1), 2);
@@ -92,17 +112,17 @@ fn stepped(s: &[u8], at: usize) -> usize {
         io::write_all(1, b" ");
     }
     hex(part_of(s, on(at, 3), n));
-    let next = events(s, on(at, on(n, 3)));
+    let next = events(s, on(at, on(n, 3)), ids);
     io::write_all(1, b"\n");
     next
 }
 
-fn line(s: &[u8], at: usize) -> usize {
+fn line(s: &[u8], at: usize, ids: Ids) -> usize {
     let body = on(at, 1);
     match byte_at(s, at) {
         1 => refusal(b"  put", s, body),
         2 => refusal(b"  deliver", s, body),
-        3 => stepped(s, body),
+        3 => stepped(s, body, ids),
         4 => cancelled(s, body),
         5 => {
             io::write_all(1, b"  reset\n");
@@ -116,14 +136,14 @@ fn line(s: &[u8], at: usize) -> usize {
     }
 }
 
-pub fn lines(s: &[u8]) {
+pub fn lines(s: &[u8], ids: Ids) {
     let mut at = 0;
     let mut k = 0;
     while k < s.len() {
         if at >= s.len() {
             break;
         }
-        at = line(s, at);
+        at = line(s, at, ids);
         k += 1;
     }
 }

@@ -2,8 +2,8 @@
 use Prim.Native.Nat.{_-_}
 use lib.ListN.{length}
 use borrow.Author.Needs.{needs}
-use Rattle.passes.proofs.say.hex.Statement.{statement}
-use Rattle.passes.proofs.say.hex.Tie as tie
+use Rattle.replay.proofs.say.hex.Statement.{statement}
+use Rattle.replay.proofs.say.hex.Tie as tie
 
 abbrev Inv-loop : tie.InvT-loop
 Inv-loop s i₀ i = Unit {0}

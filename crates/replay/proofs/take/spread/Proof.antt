@@ -3,8 +3,8 @@ use mathlib.Core.Path.{_≡_}
 use Prim.Native.Nat.{_-_}
 use lib.ListN.{length}
 use borrow.Author.Needs.{needs}
-use Rattle.passes.proofs.take.spread.Statement.{statement}
-use Rattle.passes.proofs.take.spread.Tie as tie
+use Rattle.replay.proofs.take.spread.Statement.{statement}
+use Rattle.replay.proofs.take.spread.Tie as tie
 
 abbrev Inv-loop : tie.InvT-loop
 Inv-loop coded out₀ i₀ k₀ counted₀ out i k counted = length out ≡ length out₀
