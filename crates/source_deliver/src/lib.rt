@@ -20,10 +20,8 @@ use rules::Head;
 use rules::Meaning;
 use rules::Refusal;
 use rules::State;
-use rules::TransactionStep;
 use rules::Verdict;
 ghost use mathlib.Core.Path.{_≡_};
-ghost use Rattle.rules.specs.States.{isIdle};
 ghost use Rattle.rules.specs.Deliver.{sameTransaction, verdictOf, byVerdict, heard as heardIs, byBody};
 ghost use Rattle.rules.specs.Calls.{DeliverMeets};
 ghost use Rattle.source_deliver.specs.Asked.{askedCount};
@@ -63,20 +61,6 @@ fn by_table(s: State, bytes: &[u8], f: Frame, m: Meaning) -> Done
 
 // ---- whose PDU it is
 
-fn is_idle(step: TransactionStep) -> bool
-    ensures { λ r. ⌜ r ≡ isIdle step ⌝ }
-{
-    match step {
-        TransactionStep::Idle => true,
-        TransactionStep::SendingMetadata => false,
-        TransactionStep::SendingFileData => false,
-        TransactionStep::SendingEof => false,
-        TransactionStep::WaitingForEofAck => false,
-        TransactionStep::WaitingForFinished => false,
-        TransactionStep::Closing => false,
-    }
-}
-
 // Compared by value, whatever the widths.
 fn same_transaction(a: Head, b: Head) -> bool
     ensures { λ r. ⌜ r ≡ sameTransaction a b ⌝ }
@@ -95,7 +79,7 @@ fn heard(s: State, bytes: &[u8], f: Frame, m: Meaning) -> Done
     ensures { λ r. ⌜ r ≡ heardIs s (now (bytes .entry)) f m ⌝ }
 {
     let step = s.step;
-    if is_idle(step) {
+    if source_state::is_idle(step) {
         return by_table(s, bytes, f, m);
     }
     if same_transaction(s.fixed.head, f.head) {

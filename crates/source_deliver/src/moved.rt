@@ -1,34 +1,15 @@
-// What a PDU moves. An enum field is never stored to: the state is made anew.
+// What a PDU moves.
 use rules::FinishedParams;
 use rules::Meaning;
 use rules::Queue;
 use rules::SegmentRequest;
 use rules::State;
 use rules::TransactionStep;
+use source_state::to_step;
 ghost use mathlib.Core.Path.{_≡_};
 ghost use Rattle.rules.specs.States.{toStep};
 ghost use Rattle.rules.specs.Deliver.{finishedOf, movedBy};
 ghost use Rattle.rules.specs.declared.TransactionStep.the-variants.{WaitingForFinished};
-
-fn to_step(s: State, step: TransactionStep) -> State
-    ensures { λ r. ⌜ r ≡ toStep s step ⌝ }
-{
-    let number = s.number;
-    let fixed = s.fixed;
-    let names = s.names;
-    let file = s.file;
-    let queue = s.queue;
-    let marks = s.marks;
-    State {
-        number,
-        step,
-        fixed,
-        names,
-        file,
-        queue,
-        marks,
-    }
-}
 
 // Of EOF.
 fn handle_ack_pdu(s: State) -> State

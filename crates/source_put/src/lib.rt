@@ -12,7 +12,6 @@ use rules::LocalEntityConfig;
 use rules::PutRequest;
 use rules::Refusal;
 use rules::State;
-use rules::TransactionStep;
 use source_queue::names::names_of;
 use start::entry_answer;
 use start::fixed_of;
@@ -21,23 +20,8 @@ use start::started;
 ghost use mathlib.Core.Path.{_≡_};
 ghost use mathlib.Core.Bool.{true};
 ghost use Rattle.rules.specs.Numbers.{goodWidth};
-ghost use Rattle.rules.specs.States.{isIdle};
 ghost use Rattle.rules.specs.Put.{putAnswer, putState};
 ghost use Rattle.rules.specs.Calls.{PutMeets};
-
-fn is_idle(step: TransactionStep) -> bool
-    ensures { λ r. ⌜ r ≡ isIdle step ⌝ }
-{
-    match step {
-        TransactionStep::Idle => true,
-        TransactionStep::SendingMetadata => false,
-        TransactionStep::SendingFileData => false,
-        TransactionStep::SendingEof => false,
-        TransactionStep::WaitingForEofAck => false,
-        TransactionStep::WaitingForFinished => false,
-        TransactionStep::Closing => false,
-    }
-}
 
 // Refusals 1 to 3, then those over the entry found.
 fn put_answer(
@@ -51,7 +35,7 @@ fn put_answer(
     ensures { λ r. ⌜ r ≡ putAnswer s c q (now (source .entry)) (now (destination .entry)) size ⌝ }
 {
     let step = s.step;
-    if !is_idle(step) {
+    if !source_state::is_idle(step) {
         return Answer::Refused(Refusal::AlreadyBusy);
     }
     if !ids_fit(c.id, q.destination, s.number) {

@@ -23,7 +23,7 @@ use Rattle.rules.specs.declared.Written.the-variants.{Short, Wrote}
 use Rattle.rules.specs.declared.Refusal.the-variants.{OutTooSmall}
 use Rattle.rules.specs.declared.Answer.the-variants.{Accepted}
 use Rattle.source_step.proofs.Written.{on-short, on-wrote}
-use Rattle.source_step.specs.Once.{eofIn, afterWith, acceptedStep, Countable}
+use Rattle.source_after.specs.Once.{eofIn, afterWith, acceptedStep, Countable}
 
 pub after-once : (s : State) (file : List ℕ) (d : Due) → afterWith s (eofIn (sendingOf s file d)) d ≡ afterOf s file d
 after-once s file CancelEof = refl

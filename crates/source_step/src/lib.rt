@@ -1,9 +1,6 @@
 // A step of the sender with its faults, the user's cancel, reset and a new handler: each call equal to its definition in `rules`.
 // A step decides what is due, then has its PDU written, and only then makes the new state, so that a refusal changes nothing.
-mod after;
 mod cancelling;
-mod emit;
-mod state;
 
 use rules::Answer;
 use rules::Cancelled;
@@ -23,14 +20,14 @@ ghost use lib.ListN.{length};
 ghost use Rattle.basis.specs.Laid.{inFront};
 ghost use Rattle.rules.specs.Step.{changed, refusedStep, sendingOf, bytesFor, made};
 ghost use Rattle.rules.specs.Calls.{StepMeets, CancelMeets, ResetMeets, NewMeets};
-ghost use Rattle.source_step.specs.Once.{acceptedStep, Countable};
+ghost use Rattle.source_after.specs.Once.{acceptedStep, Countable};
 
 // FileChanged: not Idle, and the lent length is not S.
 fn changed(s: State, lent: usize) -> bool
     ensures { λ r. ⌜ r ≡ changed s lent ⌝ }
 {
     let step = s.step;
-    if state::is_idle(step) {
+    if source_state::is_idle(step) {
         return false;
     }
     if lent as u64 == s.fixed.size {
@@ -56,7 +53,7 @@ fn accepted_step(s: State, p: Sending, d: Due, n: usize) -> Stepped
     ensures { λ r. ⌜ r ≡ acceptedStep s p d n ⌝ }
 {
     let events = events::events_of(s, d);
-    let t = after::after_of(s, after::eof_in(p), d);
+    let t = source_after::after_of(s, source_after::eof_in(p), d);
     Stepped {
         answer: Answer::Accepted,
         length: n,
@@ -72,7 +69,7 @@ fn made(s: State, file: &[u8], d: Due, out: &mut [u8]) -> Stepped
     ensures { λ r. ⌜ now (out .exit) ≡ inFront (bytesFor s (now (file .entry)) (sendingOf s (now (file .entry)) d)) (now (out .entry)) ⌝ }
 {
     let p = sending::sending_of(s, file, d);
-    let w = emit::emit(s, file, p, out);
+    let w = source_emit::emit(s, file, p, out);
     match w {
         Written::Short => refused_step(s, Refusal::OutTooSmall),
         Written::Wrote(n) => accepted_step(s, p, d, n),
@@ -94,7 +91,7 @@ pub fn cancel(s: State, source: EntityId, number: TransactionSeqNum) -> Cancelle
     ensures { λ r. ⌜ CancelMeets s source number r ⌝ }
 {
     if cancelling::may_cancel(s, source, number) {
-        let t = state::marked(s, 15);
+        let t = source_state::marked(s, 15);
         return Cancelled {
             yes: true,
             state: t,
@@ -110,12 +107,12 @@ pub fn cancel(s: State, source: EntityId, number: TransactionSeqNum) -> Cancelle
 pub fn reset(s: State) -> State
     ensures { λ r. ⌜ ResetMeets s r ⌝ }
 {
-    state::idle(s.number)
+    source_state::idle(s.number)
 }
 
 // A handler whose first put takes this number.
 pub fn new(number: TransactionSeqNum) -> State
     ensures { λ r. ⌜ NewMeets number r ⌝ }
 {
-    state::idle(number)
+    source_state::idle(number)
 }

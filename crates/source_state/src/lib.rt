@@ -1,0 +1,202 @@
+// The handler's state: its groups changed one at a time, the steps told apart, and Idle. An enum field is never stored to: `to_step` makes the state anew.
+use rules::EntityId;
+use rules::Eof;
+use rules::FileParams;
+use rules::FinishedParams;
+use rules::Fixed;
+use rules::Head;
+use rules::Marks;
+use rules::Names;
+use rules::Queue;
+use rules::SegmentRequest;
+use rules::State;
+use rules::TransactionSeqNum;
+use rules::TransactionStep;
+ghost use mathlib.Core.Path.{_≡_};
+ghost use Rattle.rules.specs.States.{isIdle, toStep, withFile, withMarks, keeping, counted, idle, emptyQueue, noFixed, noNames, noEof};
+ghost use Rattle.rules.specs.Step.{onward, awaiting, faultMarked};
+
+pub fn is_idle(step: TransactionStep) -> bool
+    ensures { λ r. ⌜ r ≡ isIdle step ⌝ }
+{
+    match step {
+        TransactionStep::Idle => true,
+        TransactionStep::SendingMetadata => false,
+        TransactionStep::SendingFileData => false,
+        TransactionStep::SendingEof => false,
+        TransactionStep::WaitingForEofAck => false,
+        TransactionStep::WaitingForFinished => false,
+        TransactionStep::Closing => false,
+    }
+}
+
+pub fn to_step(s: State, step: TransactionStep) -> State
+    ensures { λ r. ⌜ r ≡ toStep s step ⌝ }
+{
+    let number = s.number;
+    let fixed = s.fixed;
+    let names = s.names;
+    let file = s.file;
+    let queue = s.queue;
+    let marks = s.marks;
+    State {
+        number: number,
+        step: step,
+        fixed: fixed,
+        names: names,
+        file: file,
+        queue: queue,
+        marks: marks,
+    }
+}
+
+// Progress moves: only first-pass bytes do this.
+pub fn onward(s: State, progress: u64) -> State
+    ensures { λ r. ⌜ r ≡ onward s progress ⌝ }
+{
+    let mut t = s;
+    t.file.progress = progress;
+    t
+}
+
+// The EOF that left, kept so that it can be sent again.
+pub fn keeping(s: State, e: Eof) -> State
+    ensures { λ r. ⌜ r ≡ withFile s (keeping (s .file) e) ⌝ }
+{
+    let file = FileParams {
+        progress: s.file.progress,
+        eof: e,
+    };
+    let mut t = s;
+    t.file = file;
+    t
+}
+
+// The expiry count.
+pub fn counted(s: State, n: u8) -> State
+    ensures { λ r. ⌜ r ≡ withMarks s (counted (s .marks) n) ⌝ }
+{
+    let mut t = s;
+    t.marks.count = n;
+    t
+}
+
+// An EOF left that has to be acknowledged: it is kept and no longer owed, and the count starts.
+pub fn start_positive_ack_procedure(s: State, e: Eof) -> State
+    ensures { λ r. ⌜ r ≡ awaiting s e ⌝ }
+{
+    let mut t = keeping(s, e);
+    t.marks.owed = false;
+    t.marks.count = 0;
+    to_step(t, TransactionStep::WaitingForEofAck)
+}
+
+fn empty_queue() -> Queue
+    ensures { λ r. ⌜ r ≡ emptyQueue ⌝ }
+{
+    let places = [SegmentRequest { start: 0, end: 0 }; 64];
+    Queue {
+        places: places,
+        count: 0,
+    }
+}
+
+// Cancelled with this condition, by a fault or by the user: the mark set, the queue emptied, the EOF owed.
+pub fn marked(s: State, condition: u8) -> State
+    ensures { λ r. ⌜ r ≡ faultMarked s condition ⌝ }
+{
+    let queue = empty_queue();
+    let mut t = s;
+    t.queue = queue;
+    t.marks.cancelled = true;
+    t.marks.owed = true;
+    t.marks.condition = condition;
+    t
+}
+
+fn no_fixed() -> Fixed
+    ensures { λ r. ⌜ r ≡ noFixed ⌝ }
+{
+    let source = EntityId(0, 0);
+    let number = TransactionSeqNum(0, 0);
+    let destination = EntityId(0, 0);
+    let head = Head {
+        unacknowledged: false,
+        crc: false,
+        large: false,
+        source: source,
+        number: number,
+        destination: destination,
+    };
+    let actions = [0u8; 16];
+    Fixed {
+        head: head,
+        closure: false,
+        checksum: 0,
+        segment: 0,
+        size: 0,
+        limit: 0,
+        actions: actions,
+        eofsent: false,
+        finished: false,
+    }
+}
+
+fn no_names() -> Names
+    ensures { λ r. ⌜ r ≡ noNames ⌝ }
+{
+    let source = [0u8; 255];
+    let destination = [0u8; 255];
+    Names {
+        source: source,
+        sourcelen: 0,
+        destination: destination,
+        destinationlen: 0,
+    }
+}
+
+pub fn no_eof() -> Eof
+    ensures { λ r. ⌜ r ≡ noEof ⌝ }
+{
+    Eof {
+        condition: 0,
+        sum: 0,
+        size: 0,
+    }
+}
+
+// Every way to Idle keeps only the sequence number.
+pub fn idle(number: TransactionSeqNum) -> State
+    ensures { λ r. ⌜ r ≡ idle number ⌝ }
+{
+    let fixed = no_fixed();
+    let names = no_names();
+    let eof = no_eof();
+    let file = FileParams {
+        progress: 0,
+        eof: eof,
+    };
+    let queue = empty_queue();
+    let finished = FinishedParams {
+        condition: 0,
+        delivery: 0,
+        status: 0,
+    };
+    let marks = Marks {
+        cancelled: false,
+        owed: false,
+        condition: 0,
+        count: 0,
+        finished: finished,
+        anomalies: 0,
+    };
+    State {
+        number: number,
+        step: TransactionStep::Idle,
+        fixed: fixed,
+        names: names,
+        file: file,
+        queue: queue,
+        marks: marks,
+    }
+}
