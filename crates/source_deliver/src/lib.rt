@@ -1,15 +1,11 @@
 // A delivery: what the bytes say, then what the table of steps answers. Any state and any bytes are taken. The refusals are tried in
 // the order 20, 21, 23, 22, 24, 25, and a refused delivery changes nothing.
 mod answer;
-mod moved;
 mod nak;
-mod table;
 
 use crate::answer::accepted;
 use crate::answer::refused;
-use crate::moved::moved_by;
 use crate::nak::handle_nak_pdu;
-use crate::table::verdict_of;
 use pdu_read::directive::read_body;
 use pdu_read::header::read_header;
 use rules::Body;
@@ -21,6 +17,8 @@ use rules::Meaning;
 use rules::Refusal;
 use rules::State;
 use rules::Verdict;
+use source_table::moved::moved_by;
+use source_table::table::verdict_of;
 ghost use mathlib.Core.Path.{_≡_};
 ghost use Rattle.rules.specs.Deliver.{sameTransaction, verdictOf, byVerdict, heard as heardIs, byBody};
 ghost use Rattle.rules.specs.Calls.{DeliverMeets};

@@ -1,17 +1,15 @@
 // Put: refusals 1 to 8 in checking order, or the state anew. Any state, configuration and request is taken; a refusal changes nothing.
-mod config;
-mod numbers;
 mod start;
 
-use config::entry_of;
-use config::ids_fit;
-use config::is_found;
 use rules::Answer;
 use rules::Done;
 use rules::LocalEntityConfig;
 use rules::PutRequest;
 use rules::Refusal;
 use rules::State;
+use source_config::config::entry_of;
+use source_config::config::ids_fit;
+use source_config::config::is_found;
 use source_queue::names::names_of;
 use start::entry_answer;
 use start::fixed_of;

@@ -1,11 +1,4 @@
 // What a put makes of the entry found: the head, the refusals 4 to 8 over it, and the state's groups.
-use crate::config::good_config;
-use crate::config::good_lengths;
-use crate::numbers::is_large;
-use crate::numbers::larger;
-use crate::numbers::number_after;
-use crate::numbers::overhead;
-use crate::numbers::segment_length;
 use rules::Answer;
 use rules::Choice;
 use rules::EntityId;
@@ -25,6 +18,13 @@ use rules::SegmentRequest;
 use rules::State;
 use rules::TransactionSeqNum;
 use rules::TransactionStep;
+use source_config::config::good_config;
+use source_config::config::good_lengths;
+use source_config::numbers::is_large;
+use source_config::numbers::larger;
+use source_config::numbers::number_after;
+use source_config::numbers::overhead;
+use source_config::numbers::segment_length;
 use utf8::is_utf8;
 ghost use mathlib.Core.Path.{_≡_};
 ghost use mathlib.Core.Bool.{true};

@@ -12,9 +12,6 @@ use rules::State;
 use rules::Stepped;
 use rules::TransactionSeqNum;
 use rules::Written;
-use source_due::due;
-use source_due::events;
-use source_due::sending;
 ghost use mathlib.Core.Path.{_≡_};
 ghost use lib.ListN.{length};
 ghost use Rattle.basis.specs.Laid.{inFront};
@@ -39,7 +36,7 @@ fn changed(s: State, lent: usize) -> bool
 fn refused_step(s: State, r: Refusal) -> Stepped
     ensures { λ a. ⌜ a ≡ refusedStep s r ⌝ }
 {
-    let events = events::quiet(s);
+    let events = source_events::quiet(s);
     Stepped {
         answer: Answer::Refused(r),
         length: 0,
@@ -52,7 +49,7 @@ fn accepted_step(s: State, p: Sending, d: Due, n: usize) -> Stepped
     requires { ⌜ Countable s d ⌝ }
     ensures { λ r. ⌜ r ≡ acceptedStep s p d n ⌝ }
 {
-    let events = events::events_of(s, d);
+    let events = source_events::events_of(s, d);
     let t = source_after::after_of(s, source_after::eof_in(p), d);
     Stepped {
         answer: Answer::Accepted,
@@ -68,7 +65,7 @@ fn made(s: State, file: &[u8], d: Due, out: &mut [u8]) -> Stepped
     ensures { λ r. ⌜ r ≡ made s (now (file .entry)) d (length (now (out .entry))) ⌝ }
     ensures { λ r. ⌜ now (out .exit) ≡ inFront (bytesFor s (now (file .entry)) (sendingOf s (now (file .entry)) d)) (now (out .entry)) ⌝ }
 {
-    let p = sending::sending_of(s, file, d);
+    let p = source_sending::sending_of(s, file, d);
     let w = source_emit::emit(s, file, p, out);
     match w {
         Written::Short => refused_step(s, Refusal::OutTooSmall),
@@ -83,7 +80,7 @@ pub fn step(s: State, file: &[u8], expired: bool, out: &mut [u8]) -> Stepped
     if changed(s, file.len()) {
         return refused_step(s, Refusal::FileChanged);
     }
-    made(s, file, due::due_of(s, expired), out)
+    made(s, file, source_due::due_of(s, expired), out)
 }
 
 // The user's cancel: its EOF is owed to the next step.
