@@ -1,11 +1,31 @@
--- How many requests a PDU makes: none if it is no NAK.
+-- Questions that the code of a delivery asks of a PDU, besides document 01's own.
 -- Assumes nothing.
+use mathlib.Core.Bool.{Bool, true, false}
 use Prim.Native.Nat.{ℕ}
+use Rattle.basis.specs.Pick.{pick}
+use Rattle.rules.specs.States.{isIdle}
+use Rattle.rules.specs.Deliver.{sameTransaction}
+use Rattle.rules.specs.declared.Frame.{Frame}
+use Rattle.rules.specs.declared.State.{State}
 use Rattle.rules.specs.declared.Meaning.{Meaning}
 use Rattle.rules.specs.declared.Meaning.the-variants.{Finished, AckOfEof, Nak, KeepAlive}
+use Rattle.rules.specs.declared.Verdict.{Verdict}
+use Rattle.rules.specs.declared.Verdict.the-variants.{Enqueue, Move, Refuse, NoEffect}
 
+-- how many requests it makes: none if it is no NAK
 abbrev pub askedCount : Meaning → ℕ
 askedCount (Finished p) = 0
 askedCount AckOfEof = 0
 askedCount (Nak n) = n
 askedCount (KeepAlive p) = 0
+
+-- whether it is another transaction's
+unfoldable pub isOther : State → Frame → Bool
+isOther s f = pick (isIdle (s .step)) false (pick (sameTransaction (s .fixed .head) (f .head)) false true)
+
+-- whether the table refuses it
+abbrev pub isUnexpected : Verdict → Bool
+isUnexpected Enqueue = false
+isUnexpected Move = false
+isUnexpected Refuse = true
+isUnexpected NoEffect = false

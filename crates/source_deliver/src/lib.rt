@@ -22,7 +22,7 @@ use source_table::table::verdict_of;
 ghost use mathlib.Core.Path.{_≡_};
 ghost use Rattle.rules.specs.Deliver.{sameTransaction, verdictOf, byVerdict, heard as heardIs, byBody};
 ghost use Rattle.rules.specs.Calls.{DeliverMeets};
-ghost use Rattle.source_deliver.specs.Asked.{askedCount};
+ghost use Rattle.source_deliver.specs.Asked.{askedCount, isOther, isUnexpected};
 
 // ---- the table at work
 
@@ -49,14 +49,6 @@ fn by_verdict(s: State, bytes: &[u8], f: Frame, m: Meaning, v: Verdict) -> Done
     }
 }
 
-fn by_table(s: State, bytes: &[u8], f: Frame, m: Meaning) -> Done
-    ensures { λ r. ⌜ r ≡ byVerdict s (now (bytes .entry)) f m (verdictOf (s .step) m) ⌝ }
-{
-    let step = s.step;
-    let v = verdict_of(step, m);
-    by_verdict(s, bytes, f, m, v)
-}
-
 // ---- whose PDU it is
 
 // Compared by value, whatever the widths.
@@ -72,18 +64,47 @@ fn same_transaction(a: Head, b: Head) -> bool
     a.destination.1 == b.destination.1
 }
 
-// Idle has no transaction to compare with.
+// 23: Idle has no transaction to compare with.
+fn is_other(s: State, f: Frame) -> bool
+    ensures { λ r. ⌜ r ≡ isOther s f ⌝ }
+{
+    let step = s.step;
+    if source_state::is_idle(step) {
+        return false;
+    }
+    if same_transaction(s.fixed.head, f.head) {
+        return false;
+    }
+    true
+}
+
+// 22: what the table refuses.
+fn is_unexpected(v: Verdict) -> bool
+    ensures { λ r. ⌜ r ≡ isUnexpected v ⌝ }
+{
+    match v {
+        Verdict::Enqueue => false,
+        Verdict::Move => false,
+        Verdict::Refuse => true,
+        Verdict::NoEffect => false,
+    }
+}
+
+// 23 before 22.
 fn heard(s: State, bytes: &[u8], f: Frame, m: Meaning) -> Done
     ensures { λ r. ⌜ r ≡ heardIs s (now (bytes .entry)) f m ⌝ }
 {
     let step = s.step;
-    if source_state::is_idle(step) {
-        return by_table(s, bytes, f, m);
+    let v = verdict_of(step, m);
+    let other = is_other(s, f);
+    let unexpected = is_unexpected(v);
+    if other {
+        return refused(s, Refusal::OtherTransaction);
     }
-    if same_transaction(s.fixed.head, f.head) {
-        return by_table(s, bytes, f, m);
+    if unexpected {
+        return refused(s, Refusal::UnexpectedPdu);
     }
-    refused(s, Refusal::OtherTransaction)
+    by_verdict(s, bytes, f, m, v)
 }
 
 // ---- what the bytes say

@@ -1,0 +1,47 @@
+-- The refusals in the code's order, 23 then 22, are the definition's.
+-- Assumes nothing.
+use mathlib.Core.Path.{_≡_, refl, _∙_}
+use mathlib.Core.Bool.{Bool, true, false, false≢true}
+use mathlib.Core.List.{List}
+use Prim.Native.Nat.{ℕ}
+use Rattle.basis.specs.Pick.{pick}
+use Rattle.basis.proofs.Pick.{pick-t, pick-f}
+use Rattle.rules.specs.States.{isIdle}
+use Rattle.rules.specs.Deliver.{sameTransaction, verdictOf, byVerdict, heard, refused}
+use Rattle.rules.specs.declared.Done.{Done}
+use Rattle.rules.specs.declared.Frame.{Frame}
+use Rattle.rules.specs.declared.State.{State}
+use Rattle.rules.specs.declared.Meaning.{Meaning}
+use Rattle.rules.specs.declared.Verdict.{Verdict}
+use Rattle.rules.specs.declared.Verdict.the-variants.{Enqueue, Move, Refuse, NoEffect}
+use Rattle.rules.specs.declared.Refusal.the-variants.{OtherTransaction, UnexpectedPdu}
+use Rattle.source_deliver.specs.Asked.{isOther, isUnexpected}
+
+-- the two tests of `isOther` over any flags
+turned : {A : Type 0} (idle same : Bool) (x y : A) → pick (pick idle false (pick same false true)) y x ≡ pick idle x (pick same x y)
+turned true same x y = refl
+turned false true x y = refl
+turned false false x y = refl
+
+in-order : (s : State) (bytes : List ℕ) (f : Frame) (m : Meaning)
+    → pick (isOther s f) (refused s OtherTransaction) (byVerdict s bytes f m (verdictOf (s .step) m)) ≡ heard s bytes f m
+unfolding isOther heard
+in-order s bytes f m =
+    turned (isIdle (s .step)) (sameTransaction (s .fixed .head) (f .head)) (byVerdict s bytes f m (verdictOf (s .step) m)) (refused s OtherTransaction)
+
+module _ (s : State) (bytes : List ℕ) (f : Frame) (m : Meaning) (r : Done) where
+  pub in-23 : isOther s f ≡ true → r ≡ refused s OtherTransaction → r ≡ heard s bytes f m
+  in-23 e p = pick-t (isOther s f) r _ _ e p ∙ in-order s bytes f m
+
+  pub by-table : isOther s f ≡ false → r ≡ byVerdict s bytes f m (verdictOf (s .step) m) → r ≡ heard s bytes f m
+  by-table e p = pick-f (isOther s f) r _ _ e p ∙ in-order s bytes f m
+
+  -- what the table refuses is 22
+  refuse : (v : Verdict) → isUnexpected v ≡ true → refused s UnexpectedPdu ≡ byVerdict s bytes f m v
+  refuse Enqueue e = absurd (false≢true e)
+  refuse Move e = absurd (false≢true e)
+  refuse Refuse e = refl
+  refuse NoEffect e = absurd (false≢true e)
+
+  pub in-22 : isOther s f ≡ false → isUnexpected (verdictOf (s .step) m) ≡ true → r ≡ refused s UnexpectedPdu → r ≡ heard s bytes f m
+  in-22 e u p = by-table e (p ∙ refuse (verdictOf (s .step) m) u)
