@@ -1,7 +1,7 @@
 // Each run of the stream: its label, then the answers.
 use crate::say;
 use crate::take;
-use pdu_read::field::part_of;
+use pdu_header::field::part_of;
 
 fn one(file: &[u8], coded: &[u8]) {
     let mut calls = io::large_buffer();

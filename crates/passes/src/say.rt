@@ -1,8 +1,8 @@
 // One line for each answer of the handler; docs/HOST.md has the format of the answers. A line function answers where the next record begins.
 use crate::take::length;
 use crate::take::on;
-use pdu_read::field::byte_at;
-use pdu_read::field::part_of;
+use pdu_header::field::byte_at;
+use pdu_header::field::part_of;
 
 fn number(s: &[u8], at: usize, w: usize) {
     io::write_all(1, b" ");
