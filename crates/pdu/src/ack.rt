@@ -1,6 +1,9 @@
 // ACK of Finished: condition, status.
-use super::header;
 use basis::put_be;
+use pdu_head::crc_length;
+use pdu_head::head_length;
+use pdu_head::put_crc;
+use pdu_head::put_head;
 use rules::Head;
 use rules::Written;
 ghost use mathlib.Core.Path.{_≡_};
@@ -29,11 +32,11 @@ pub fn write_ack_finished(out: &mut [u8], h: Head, condition: u8, status: u8) ->
     ensures { λ r. ⌜ now (out .exit) ≡ inFront (encode h (ackFinished condition status)) (now (out .entry)) ⌝ }
 {
     // The data field: the body is 3 bytes.
-    let n = 3 + header::crc_length(h.crc);
-    if out.len() < header::head_length(h) + n {
+    let n = 3 + crc_length(h.crc);
+    if out.len() < head_length(h) + n {
         return Written::Short;
     }
-    let a = header::put_head(out, h, false, n);
+    let a = put_head(out, h, false, n);
     let b = put_ack_finished(out, a, h.large, condition, status);
-    Written::Wrote(header::put_crc(out, b, h.crc))
+    Written::Wrote(put_crc(out, b, h.crc))
 }

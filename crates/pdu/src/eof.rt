@@ -1,6 +1,10 @@
 // EOF: condition, checksum, size.
-use super::header;
 use basis::put_be;
+use pdu_head::crc_length;
+use pdu_head::head_length;
+use pdu_head::put_crc;
+use pdu_head::put_head;
+use pdu_header::field::size_width;
 use rules::Head;
 use rules::Written;
 ghost use mathlib.Core.Path.{_≡_};
@@ -16,7 +20,7 @@ fn put_eof(out: &mut [u8], at: usize, large: bool, condition: u8, sum: u32, size
     requires { ⌜ at + sizes (layout large (eof condition sum size)) ≤ length (now out) ⌝ }
     ensures { λ r. ⌜ (r ≡ at + sizes (layout large (eof condition sum size))) × (now (out .exit) ≡ laid (now (out .entry)) at (bodyBytes large (eof condition sum size))) ⌝ }
 {
-    let f = header::size_width(large);
+    let f = size_width(large);
     let flags = (condition as u64) * 16;
     let p0 = put_be(out, at, 1, EOF);
     let p1 = put_be(out, p0, 1, flags);
@@ -29,11 +33,11 @@ pub fn write_eof(out: &mut [u8], h: Head, condition: u8, sum: u32, size: u64) ->
     ensures { λ r. ⌜ now (out .exit) ≡ inFront (encode h (eof condition sum size)) (now (out .entry)) ⌝ }
 {
     // The data field: code, condition and checksum are 6 bytes.
-    let n = 6 + header::size_width(h.large) + header::crc_length(h.crc);
-    if out.len() < header::head_length(h) + n {
+    let n = 6 + size_width(h.large) + crc_length(h.crc);
+    if out.len() < head_length(h) + n {
         return Written::Short;
     }
-    let a = header::put_head(out, h, false, n);
+    let a = put_head(out, h, false, n);
     let b = put_eof(out, a, h.large, condition, sum, size);
-    Written::Wrote(header::put_crc(out, b, h.crc))
+    Written::Wrote(put_crc(out, b, h.crc))
 }

@@ -1,7 +1,11 @@
 // File data: offset, bytes.
-use super::header;
 use basis::put_be;
 use basis::put_bytes;
+use pdu_head::crc_length;
+use pdu_head::head_length;
+use pdu_head::put_crc;
+use pdu_head::put_head;
+use pdu_header::field::size_width;
 use rules::Head;
 use rules::Written;
 ghost use mathlib.Core.Path.{_≡_};
@@ -15,7 +19,7 @@ fn put_file_data(out: &mut [u8], at: usize, large: bool, offset: u64, bytes: &[u
     requires { ⌜ at + sizes (layout large (fileData offset (now bytes))) ≤ length (now out) ⌝ }
     ensures { λ r. ⌜ (r ≡ at + sizes (layout large (fileData offset (now (bytes .entry))))) × (now (out .exit) ≡ laid (now (out .entry)) at (bodyBytes large (fileData offset (now (bytes .entry))))) ⌝ }
 {
-    let f = header::size_width(large);
+    let f = size_width(large);
     let p0 = put_be(out, at, f, offset);
     put_bytes(out, p0, bytes)
 }
@@ -24,11 +28,11 @@ pub fn write_file_data(out: &mut [u8], h: Head, offset: u64, bytes: &[u8]) -> Wr
     ensures { λ r. ⌜ r ≡ writtenOf (encode h (fileData offset (now (bytes .entry)))) (now (out .entry)) ⌝ }
     ensures { λ r. ⌜ now (out .exit) ≡ inFront (encode h (fileData offset (now (bytes .entry)))) (now (out .entry)) ⌝ }
 {
-    let n = header::size_width(h.large) + bytes.len() + header::crc_length(h.crc);
-    if out.len() < header::head_length(h) + n {
+    let n = size_width(h.large) + bytes.len() + crc_length(h.crc);
+    if out.len() < head_length(h) + n {
         return Written::Short;
     }
-    let a = header::put_head(out, h, true, n);
+    let a = put_head(out, h, true, n);
     let b = put_file_data(out, a, h.large, offset, bytes);
-    Written::Wrote(header::put_crc(out, b, h.crc))
+    Written::Wrote(put_crc(out, b, h.crc))
 }

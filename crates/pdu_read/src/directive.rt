@@ -1,10 +1,10 @@
 // A body in its frame: which reader its directive code picks, and what the frame refuses.
 use crate::ack::ack_in;
-use crate::field::part_of;
 use crate::field::up_to;
 use crate::finished::finished_in;
 use crate::keep_alive::keep_alive_in;
 use crate::nak::nak_in;
+use pdu_header::field::part_of;
 use rules::Body;
 use rules::Frame;
 ghost use mathlib.Core.Path.{_≡_};

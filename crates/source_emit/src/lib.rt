@@ -3,7 +3,7 @@ use basis::lesser;
 use pdu::ack::write_ack_finished;
 use pdu::eof::write_eof;
 use pdu::file_data::write_file_data;
-use pdu::metadata::write_metadata;
+use pdu_metadata::write_metadata;
 use rules::Head;
 use rules::Names;
 use rules::Sending;
