@@ -1,6 +1,6 @@
 // Runs a list of calls from standard input and writes the answers to standard output: four bytes of the file's length, the file, then the list
 // as docs/HOST.md has it. Input of more than 65,536 bytes is cut there.
-use pdu_header::field::part_of;
+use pdu_read_header::field::part_of;
 
 fn main() {
     let mut input = io::large_buffer();

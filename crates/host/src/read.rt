@@ -1,5 +1,5 @@
 // The list of calls taken apart. Past its end everything is zero: `run` tests first that a record is whole.
-use pdu_header::field::byte_at;
+use pdu_read_header::field::byte_at;
 use rules::Choice;
 use rules::EntityId;
 use rules::LocalEntityConfig;

@@ -1,8 +1,8 @@
 // One call after another on a state that goes by value.
 use crate::read;
 use crate::write;
-use pdu_header::field::byte_at;
-use pdu_header::field::part_of;
+use pdu_read_header::field::byte_at;
+use pdu_read_header::field::part_of;
 use rules::State;
 use rules::Stepped;
 

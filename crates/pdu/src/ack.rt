@@ -1,9 +1,9 @@
 // ACK of Finished: condition, status.
 use basis::put_be;
-use pdu_head::crc_length;
-use pdu_head::head_length;
-use pdu_head::put_crc;
-use pdu_head::put_head;
+use pdu_write_header::crc_length;
+use pdu_write_header::head_length;
+use pdu_write_header::put_crc;
+use pdu_write_header::put_head;
 use rules::Head;
 use rules::Written;
 ghost use mathlib.Core.Path.{_≡_};

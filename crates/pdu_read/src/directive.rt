@@ -4,7 +4,7 @@ use crate::field::up_to;
 use crate::finished::finished_in;
 use crate::keep_alive::keep_alive_in;
 use crate::nak::nak_in;
-use pdu_header::field::part_of;
+use pdu_read_header::field::part_of;
 use rules::Body;
 use rules::Frame;
 ghost use mathlib.Core.Path.{_≡_};

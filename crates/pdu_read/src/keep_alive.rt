@@ -1,6 +1,6 @@
 // 12 Keep Alive: progress F.
-use pdu_header::field::num_of;
-use pdu_header::field::size_width;
+use pdu_read_header::field::num_of;
+use pdu_read_header::field::size_width;
 use rules::Body;
 use rules::Meaning;
 ghost use mathlib.Core.Path.{_≡_};

@@ -1,6 +1,6 @@
 // 8 NAK: scope start, scope end, then pairs start, end, F bytes each; the scope is not judged.
-use pdu_header::field::num_of;
-use pdu_header::field::size_width;
+use pdu_read_header::field::num_of;
+use pdu_read_header::field::size_width;
 use rules::Body;
 use rules::Meaning;
 use rules::SegmentRequest;

@@ -2,8 +2,8 @@
 use crate::Ids;
 use crate::take::length;
 use crate::take::on;
-use pdu_header::field::byte_at;
-use pdu_header::field::part_of;
+use pdu_read_header::field::byte_at;
+use pdu_read_header::field::part_of;
 
 fn number(s: &[u8], at: usize, w: usize) {
     io::write_all(1, b" ");

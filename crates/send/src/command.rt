@@ -9,7 +9,7 @@ use crate::words;
 use crate::words::Taken;
 use crate::words::Words;
 use libc::STDOUT_FILENO;
-use pdu_header::field::part_of;
+use pdu_read_header::field::part_of;
 use rules::Answer;
 use rules::State;
 

@@ -1,6 +1,6 @@
 // Arguments and the files that they name.
 use crate::tell;
-use pdu_header::field::part_of;
+use pdu_read_header::field::part_of;
 
 pub enum Loaded {
     Bytes(usize),

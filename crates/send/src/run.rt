@@ -5,7 +5,7 @@ use crate::say;
 use crate::say::Sum;
 use crate::tell;
 use crate::words::Words;
-use pdu_header::field::part_of;
+use pdu_read_header::field::part_of;
 use rules::Answer;
 use rules::Choice;
 use rules::EntityId;

@@ -1,11 +1,11 @@
 // What is said of a PDU, a refusal or an event, in plain words, laid into a lent buffer from a place on. What does not fit is left out.
-use pdu_header::field::byte_at;
-use pdu_header::field::part_of;
-use pdu_header::field::size_width;
-use pdu_header::read_header;
 use pdu_read::directive::read_body;
 use pdu_read::field::up_to;
 use pdu_read::nak::request_at;
+use pdu_read_header::field::byte_at;
+use pdu_read_header::field::part_of;
+use pdu_read_header::field::size_width;
+use pdu_read_header::read_header;
 use rules::Answer;
 use rules::Body;
 use rules::FinishedParams;

@@ -2,7 +2,7 @@
 use crate::run::Tally;
 use crate::say;
 use libc::STDERR_FILENO;
-use pdu_header::field::part_of;
+use pdu_read_header::field::part_of;
 use rules::Events;
 use rules::FaultEvent;
 use rules::FinishedEvent;

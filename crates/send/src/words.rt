@@ -2,7 +2,7 @@
 ghost use mathlib.Core.Path.{_≡_};
 ghost use Prim.Native.Nat.{_+_, _-_, _*_};
 ghost use Rattle.send.specs.Decimal.{isDigit, fitting, moreOf, numberIn};
-use pdu_header::field::part_of;
+use pdu_read_header::field::part_of;
 
 // What the words ask for. A name is kept as the number of its argument, 0 where none was given.
 pub struct Words {

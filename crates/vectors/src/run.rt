@@ -1,8 +1,8 @@
 // Each kind of vector: what the crates say of it, held to what the vector says.
 use crate::decoder;
 use crate::take;
-use pdu_header::field::byte_at;
-use pdu_header::field::part_of;
+use pdu_read_header::field::byte_at;
+use pdu_read_header::field::part_of;
 use rules::Body;
 use rules::Checksum;
 use rules::Frame;
@@ -319,7 +319,7 @@ fn ack_vector(s: &[u8], at: usize) -> Ran {
 
 // The n pairs of a delivered NAK, held to the vector's.
 fn pairs_agree(delivery: &[u8], large: bool, first: usize, s: &[u8], at: usize, n: usize) -> bool {
-    let width = pdu_header::field::size_width(large);
+    let width = pdu_read_header::field::size_width(large);
     let mut k = 0;
     let mut p = first;
     let mut q = at;
@@ -373,7 +373,7 @@ fn meaning_vector(delivery: &[u8], f: Frame, m: Meaning, s: &[u8], at: usize) ->
         Meaning::Nak(n) => {
             let count = take::length(s, p);
             let large = f.head.large;
-            let first = take::on(f.start, 1 + 2 * pdu_header::field::size_width(large));
+            let first = take::on(f.start, 1 + 2 * pdu_read_header::field::size_width(large));
             let next = take::on(p, 2 + 16 * count);
             if code != 8 {
                 return Ran {
@@ -412,7 +412,7 @@ fn delivery_vector(s: &[u8], at: usize) -> Ran {
     let e = take::past(s, at);
     let want = byte_at(s, e);
     let next = take::on(e, 1);
-    match pdu_header::read_header(delivery) {
+    match pdu_read_header::read_header(delivery) {
         Framed::Malformed => Ran {
             ok: want == 20,
             next: next,

@@ -1,7 +1,7 @@
 // Taking things from the stream of vectors: bytes, numbers, a run of bytes behind its length, a header. Past the end everything is zero.
 ghost use Prim.Native.Nat.{_<_};
-use pdu_header::field::byte_at;
-use pdu_header::field::part_of;
+use pdu_read_header::field::byte_at;
+use pdu_read_header::field::part_of;
 use rules::EntityId;
 use rules::Head;
 use rules::TransactionSeqNum;
