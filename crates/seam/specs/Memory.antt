@@ -1,4 +1,4 @@
--- What follows for the lent memory. Proofs: proofs/Round.antt, proofs/Memory.antt.
+-- What follows for the lent memory. Proofs: proofs/Round.antt, proofs/Laws.antt.
 -- Assumes nothing.
 use mathlib.Core.Path.{_≡_}
 use mathlib.Core.Bool.{Bool, true, false}

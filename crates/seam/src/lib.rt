@@ -6,8 +6,9 @@ mod memory;
 
 ghost use mathlib.Core.Path.{_≡_};
 ghost use Rattle.rules.specs.Refusals.{answerNo};
-ghost use Rattle.seam.specs.Seam.{byAnswer, stored, newDone, putDone, deliverDone, stepDone, stepOut, cancelDone, resetDone, noReport};
+ghost use Rattle.seam.specs.Seam.{stored, byAnswer, byWord, newDone, putDone, deliverDone, stepDone, stepOut, cancelDone, resetDone};
 use rules::Answer;
+use rules::Cancelled;
 use rules::EntityId;
 use rules::FileParams;
 use rules::FinishedParams;
@@ -142,6 +143,20 @@ fn by_answer(h: Handler, s: State, r: Report, a: Answer) -> Done
     }
 }
 
+// A cancel's yes or no; a no leaves all as it was.
+fn by_word(h: Handler, d: Cancelled) -> Done
+    ensures { λ r. ⌜ r ≡ byWord h d ⌝ }
+{
+    if d.yes {
+        let t = d.state;
+        return stored(1, h, t, events::no_report());
+    }
+    Done {
+        code: 0,
+        held: h,
+    }
+}
+
 // ---- The calls on values
 
 pub fn new_done(h: Handler, width: u8, number: u64) -> Done
@@ -197,16 +212,8 @@ pub fn cancel_done(h: Handler, sourcewidth: u8, source: u64, numberwidth: u8, nu
     ensures { λ r. ⌜ r ≡ cancelDone h sourcewidth source numberwidth number ⌝ }
 {
     let s = memory::state_of(h);
-    let d = source::cancel(
-        s,
-        EntityId(sourcewidth, source),
-        TransactionSeqNum(numberwidth, number),
-    );
-    if d.yes {
-        let t = d.state;
-        return stored(1, h, t, events::no_report());
-    }
-    Done { code: 0, held: h }
+    let d = source::cancel(s, EntityId(sourcewidth, source), TransactionSeqNum(numberwidth, number));
+    by_word(h, d)
 }
 
 pub fn reset_done(h: Handler) -> Done
