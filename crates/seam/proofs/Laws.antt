@@ -109,10 +109,11 @@ memory-follows =
           let r = deliverSpec (stateOf h) bytes in
           (code-is h (r .state) noReport (r .answer), follows h (r .state) noReport (r .answer) (same .deliver (stateOf h) bytes));
       step = λ h file expired out.
-          let r = stepSpec (stateOf h) file (flagOf expired) (length out) in
-          (code-is h (r .state) (reportOf r) (r .answer),
-          follows h (r .state) (reportOf r) (r .answer) (λ n. same .step (stateOf h) file (flagOf expired) out n .0),
-          refl);
+          let r = stepSpec (stateOf h) file (flagOf expired) (length out) in (
+            code-is h (r .state) (reportOf r) (r .answer),
+            follows h (r .state) (reportOf r) (r .answer) (λ n. same .step (stateOf h) file (flagOf expired) out n .0),
+            refl,
+          );
       cancel = λ h sourcewidth source numberwidth number.
           let r = cancelSpec (stateOf h) (sourcewidth, source) (numberwidth, number) in
           (word-is h (r .state) (r .yes), word-follows h (r .state) (r .yes) (same .cancel (stateOf h) (sourcewidth, source) (numberwidth, number)));
@@ -128,9 +129,10 @@ memory-untouched =
           untouched h (r .state) noReport (r .answer);
       deliver = λ h bytes. let r = deliverSpec (stateOf h) bytes in untouched h (r .state) noReport (r .answer);
       step = λ h file expired out n.
-          let r = stepSpec (stateOf h) file (flagOf expired) (length out) in
-          (untouched h (r .state) (reportOf r) (r .answer) n,
-          refusal-changes-nothing .step (stateOf h) file (flagOf expired) out (λ e. n (code-is h (r .state) (reportOf r) (r .answer) ∙ e)) .3);
+          let r = stepSpec (stateOf h) file (flagOf expired) (length out) in (
+            untouched h (r .state) (reportOf r) (r .answer) n,
+            refusal-changes-nothing .step (stateOf h) file (flagOf expired) out (λ e. n (code-is h (r .state) (reportOf r) (r .answer) ∙ e)) .3,
+          );
       cancel = λ h sourcewidth source numberwidth number.
           let r = cancelSpec (stateOf h) (sourcewidth, source) (numberwidth, number) in
           word-untouched h (r .state) (r .yes);

@@ -36,13 +36,14 @@ step-kept Closing = refl
 fixed-kept : (f : Fixed) → fixedTaken (fixedStored f) ≡ f
 unfolding fixedTaken headTaken fixedStored
 fixed-kept f =
-    rw
-    (flag-kept (f .head .unacknowledged),
-    flag-kept (f .head .crc),
-    flag-kept (f .head .large),
-    flag-kept (f .closure),
-    flag-kept (f .eofsent),
-    flag-kept (f .finished))
+    rw (
+      flag-kept (f .head .unacknowledged),
+      flag-kept (f .head .crc),
+      flag-kept (f .head .large),
+      flag-kept (f .closure),
+      flag-kept (f .eofsent),
+      flag-kept (f .finished),
+    )
 
 marks-kept : (m : Marks) → marksTaken (marksStored m) ≡ m
 unfolding marksTaken marksStored
@@ -71,13 +72,14 @@ timer-kept CheckTimer = refl
 
 pub events-kept : EventsKept
 unfolding reportOf
-events-kept r =
-    (refl,
-    λ i. record {
-      id = r .events .id;
-      transaction = flag-kept (r .events .transaction) i;
-      eofsent = flag-kept (r .events .eofsent) i;
-      fault = fault-kept (r .events .fault) i;
-      finished = finished-kept (r .events .finished) i;
-      timer = timer-kept (r .events .timer) i;
-    })
+events-kept r = (
+  refl,
+  λ i. record {
+    id = r .events .id;
+    transaction = flag-kept (r .events .transaction) i;
+    eofsent = flag-kept (r .events .eofsent) i;
+    fault = fault-kept (r .events .fault) i;
+    finished = finished-kept (r .events .finished) i;
+    timer = timer-kept (r .events .timer) i;
+  },
+)

@@ -151,10 +151,7 @@ fn by_word(h: Handler, d: Cancelled) -> Done
         let t = d.state;
         return stored(1, h, t, events::no_report());
     }
-    Done {
-        code: 0,
-        held: h,
-    }
+    Done { code: 0, held: h }
 }
 
 // ---- The calls on values
@@ -212,7 +209,11 @@ pub fn cancel_done(h: Handler, sourcewidth: u8, source: u64, numberwidth: u8, nu
     ensures { λ r. ⌜ r ≡ cancelDone h sourcewidth source numberwidth number ⌝ }
 {
     let s = memory::state_of(h);
-    let d = source::cancel(s, EntityId(sourcewidth, source), TransactionSeqNum(numberwidth, number));
+    let d = source::cancel(
+        s,
+        EntityId(sourcewidth, source),
+        TransactionSeqNum(numberwidth, number),
+    );
     by_word(h, d)
 }
 

@@ -66,15 +66,16 @@ returns c =
     let d = e .before .before .before .before in
     let b = d .before .before .before .before in
     let s = b .before .before .before .before in
-    rw
-    (b .before .before .remote-of .ensures,
-    b .remote-of2 .ensures,
-    d .before .before .remote-of3 .ensures,
-    d .remote-of4 .ensures,
-    e .before .before .remote-of5 .ensures,
-    e .remote-of6 .ensures,
-    c .before .before .remote-of7 .ensures,
-    c .remote-of8 .ensures)
+    rw (
+      b .before .before .remote-of .ensures,
+      b .remote-of2 .ensures,
+      d .before .before .remote-of3 .ensures,
+      d .remote-of4 .ensures,
+      e .before .before .remote-of5 .ensures,
+      e .remote-of6 .ensures,
+      c .before .before .remote-of7 .ensures,
+      c .remote-of8 .ensures,
+    )
     (eight remoteOf (s .args .t1) none (s .good .0 .1 .0 .1))
 
 pub remotes-of-spec : {M : Type 1} → statement M
