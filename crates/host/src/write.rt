@@ -1,10 +1,8 @@
 // The answers written, each field only where it fits; `run` keeps room for the whole record.
 ghost use Prim.Native.Nat.{_≤_};
-use rules::Answer;
 use rules::Events;
 use rules::FaultEvent;
 use rules::FinishedEvent;
-use rules::Refusal;
 use rules::TimerEvent;
 use rules::TransactionId;
 
@@ -27,34 +25,6 @@ pub fn add_bytes(out: &mut [u8], at: usize, s: &[u8]) -> usize {
         return at;
     }
     basis::put_bytes(out, at, s)
-}
-
-fn refusal_no(r: Refusal) -> u8 {
-    match r {
-        Refusal::AlreadyBusy => 1,
-        Refusal::BadIdWidth => 2,
-        Refusal::NoRemoteCfgFound => 3,
-        Refusal::BadConfig => 4,
-        Refusal::BadNameLength => 5,
-        Refusal::SourceFileNotValidUtf8 => 6,
-        Refusal::DestFileNotValidUtf8 => 7,
-        Refusal::PacketLimit => 8,
-        Refusal::Malformed => 20,
-        Refusal::CantProcessPacketType => 21,
-        Refusal::UnexpectedPdu => 22,
-        Refusal::OtherTransaction => 23,
-        Refusal::InvalidNakPdu => 24,
-        Refusal::RetransmitFull => 25,
-        Refusal::FileChanged => 30,
-        Refusal::OutTooSmall => 31,
-    }
-}
-
-pub fn answer_no(a: Answer) -> u8 {
-    match a {
-        Answer::Accepted => 0,
-        Answer::Refused(r) => refusal_no(r),
-    }
 }
 
 fn flag(b: bool, v: u64) -> u64

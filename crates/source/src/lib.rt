@@ -1,12 +1,16 @@
 // The sending handler: six calls over one state that goes in by value and comes back by value. Each takes any state value, any bytes and any
 // numbers, in any order, and returns; its contract is one relation of crate `rules` and nothing beside it, so what is proved of the relations holds of
 // these calls. The parts stand in crates of their own: source_queue, source_put, source_deliver, source_due, source_step.
+ghost use mathlib.Core.Path.{_≡_};
 ghost use Rattle.rules.specs.Calls.{PutMeets, DeliverMeets, StepMeets, CancelMeets, ResetMeets, NewMeets};
+ghost use Rattle.rules.specs.Refusals.{refusalNo, answerNo};
+use rules::Answer;
 use rules::Cancelled;
 use rules::Done;
 use rules::EntityId;
 use rules::LocalEntityConfig;
 use rules::PutRequest;
+use rules::Refusal;
 use rules::State;
 use rules::Stepped;
 use rules::TransactionSeqNum;
@@ -58,4 +62,38 @@ pub fn reset(s: State) -> State
     ensures { λ r. ⌜ ResetMeets s r ⌝ }
 {
     source_step::reset(s)
+}
+
+// Document 01's number of a refusal.
+fn refusal_no(r: Refusal) -> u8
+    ensures { λ n. ⌜ n ≡ refusalNo r ⌝ }
+{
+    match r {
+        Refusal::AlreadyBusy => 1,
+        Refusal::BadIdWidth => 2,
+        Refusal::NoRemoteCfgFound => 3,
+        Refusal::BadConfig => 4,
+        Refusal::BadNameLength => 5,
+        Refusal::SourceFileNotValidUtf8 => 6,
+        Refusal::DestFileNotValidUtf8 => 7,
+        Refusal::PacketLimit => 8,
+        Refusal::Malformed => 20,
+        Refusal::CantProcessPacketType => 21,
+        Refusal::UnexpectedPdu => 22,
+        Refusal::OtherTransaction => 23,
+        Refusal::InvalidNakPdu => 24,
+        Refusal::RetransmitFull => 25,
+        Refusal::FileChanged => 30,
+        Refusal::OutTooSmall => 31,
+    }
+}
+
+// The number of an answer; 0: accepted.
+pub fn answer_no(a: Answer) -> u8
+    ensures { λ n. ⌜ n ≡ answerNo a ⌝ }
+{
+    match a {
+        Answer::Accepted => 0,
+        Answer::Refused(r) => refusal_no(r),
+    }
 }

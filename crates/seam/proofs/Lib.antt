@@ -1,0 +1,4 @@
+pub mod Walk
+pub mod Eight
+pub mod Round
+pub mod Laws
