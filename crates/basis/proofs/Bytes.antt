@@ -10,7 +10,7 @@ use lib.ListN.{length, getD, take, drop, length-take, length-drop, drop-of-lengt
 use lib.Pow.{pow-add, pow-mono, mod-pow-add, high, low}
 use lib.Seq.{drop-cons, take-nil}
 use Rattle.basis.proofs.Lists.{take-min}
-use Rattle.basis.specs.Bytes.{be, numFrom, num, part, numAt, Bytes}
+use Rattle.basis.specs.Bytes.{be, numFrom, num, part, byte, numAt, Bytes}
 
 pub length-be : (w v : ℕ) → length (be w v) ≡ w
 unfolding be
@@ -105,6 +105,14 @@ part-min s at w = rw (add-sub-cancel-left) (take-min (drop at s) w (length s - a
 pub num-past : (s : List ℕ) (at w : ℕ) → length s ≤ at → 0 ≡ numAt s at w
 unfolding numAt part num
 num-past s at w h = rw (drop-of-length-le s h, take-nil w)
+
+-- a byte is the number in one byte; past the end it is 0
+pub byte-num : (s : List ℕ) (i : ℕ) → byte s i ≡ numAt s i 1
+unfolding byte numAt part num
+byte-num [] zero = refl
+byte-num [] (suc i) = refl
+byte-num (b ∷ s) zero = omega arith
+byte-num (b ∷ s) (suc i) = byte-num s i
 
 -- the number in a part cut at the end, and its bound
 pub num-part : (s : List ℕ) (at w n : ℕ) → n ≡ min w (length s - at) → num (take (at + n - at) (drop at s)) ≡ numAt s at w

@@ -91,16 +91,16 @@ fits-both w v e =
     let p = both (goodWidth w) (ltb v (2 ^ (8 * w))) e in
     (p .0, ltb-true v (2 ^ (8 * w)) (p .1))
 
--- a width of the two, and no smaller than either
-larger-good : (a b : ℕ) → goodWidth a ≡ true → goodWidth b ≡ true → goodWidth (larger a b) ≡ true
-unfolding larger
-larger-good a b x y = cases (λ (n : ℕ). goodWidth n ≡ true) (ltb a b) b a (λ e. y) (λ e. x)
-
+-- no smaller than either width, and one of the two
 larger-le : (a b : ℕ) → (a ≤ larger a b) × (b ≤ larger a b)
 unfolding larger
 larger-le a b =
-    cases (λ (n : ℕ). (a ≤ n) × (b ≤ n)) (ltb a b) b a
+    cases (λ (n : ℕ). (a ≤ n) × (b ≤ n)) (ltb a b) _ _
     (λ e. let l = ltb-true a b e in omega arith) (λ e. let l = ltb-false a b e in omega arith)
+
+larger-good : (a b : ℕ) → goodWidth a ≡ true → goodWidth b ≡ true → goodWidth (larger a b) ≡ true
+unfolding larger
+larger-good a b x y = cases (λ (n : ℕ). goodWidth n ≡ true) (ltb a b) b a (λ e. y) (λ e. x)
 
 wider : (v a b : ℕ) → v < 2 ^ (8 * a) → a ≤ b → v < 2 ^ (8 * b)
 wider v a b h l = lt-of-lt-of-le h (pow-mono (omega arith))

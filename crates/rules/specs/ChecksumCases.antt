@@ -5,16 +5,18 @@ use mathlib.Core.List.{List, [], _∷_}
 use Prim.Native.Nat.{ℕ}
 use Rattle.rules.specs.declared.Checksum.{Checksum}
 use Rattle.rules.specs.declared.Checksum.the-variants.{Is, UnknownType}
-use Rattle.rules.specs.Checksum.{more, modular, reversed, crcByte, crc32, castagnoli, ethernet, checksumOf, crc16Byte, crc16}
+use Rattle.rules.specs.Checksum.{more, modular, reversed, crcByte, crc32, castagnoli, ethernet, checksumOf, sumOf, crc16Byte, crc16}
 
--- a type over bytes, the CRC-16 of bytes, a polynomial's 32 bits in the other order: each with what it gives
+-- a type over bytes, its number in an EOF, the CRC-16 of bytes, a polynomial's 32 bits in the other order: each with what it gives
 pub data Case : Type 0 where
   sum : ℕ → List ℕ → Checksum → Case
+  carried : ℕ → List ℕ → ℕ → Case
   closing : List ℕ → ℕ → Case
   backwards : ℕ → ℕ → Case
 
 abbrev pub Holds : Case → Type 0
 Holds (sum type s x) = checksumOf type s ≡ x
+Holds (carried type s v) = sumOf type s ≡ v
 Holds (closing s v) = crc16 s ≡ v
 Holds (backwards p v) = reversed 32 p 0 ≡ v
 
@@ -37,11 +39,13 @@ cases =
     ∷ sum 2 digits (Is 0xE3069283)
     ∷ sum 3 digits (Is 0xCBF43926)
     ∷ sum 15 five (Is 0)
+    ∷ carried 2 digits 0xE3069283
+    ∷ carried 1 five 0
     ∷ closing digits 0x29B1
     ∷ backwards castagnoli 0x82F63B78
     ∷ backwards ethernet 0xEDB88320
     ∷ []
 
 pub published : Each cases
-unfolding checksumOf modular more reversed crc32 crcByte crc16 crc16Byte
-published = (refl, (refl, (refl, (refl, (refl, (refl, (refl, (refl, tt))))))))
+unfolding checksumOf sumOf modular more reversed crc32 crcByte crc16 crc16Byte
+published = (refl, (refl, (refl, (refl, (refl, (refl, (refl, (refl, (refl, (refl, tt))))))))))

@@ -1,11 +1,17 @@
--- "only an accepted put moves" the sequence number. Proof: proofs/NumberMoves.antt.
+-- "after the last number of its width comes 0; only an accepted put moves" the sequence number. Proof: proofs/NumberMoves.antt.
 -- Assumes nothing.
 use mathlib.Core.Path.{_≡_}
 use mathlib.Core.List.{List, [], _∷_}
+use Prim.Native.Nat.{ℕ, _+_, _*_, _^_, _<_}
 use Rattle.rules.specs.Numbers.{numberAfter}
 use Rattle.rules.specs.Runs.{Call, Event, turned, began, took, made, ended, after, seen, trace, behind}
 use Rattle.rules.specs.declared.TransactionSeqNum.{TransactionSeqNum}
 use Rattle.rules.specs.declared.State.{State}
+
+-- PROMISE number-after: "after the last number of its width comes 0"; before it comes the next, and the width stays.
+abbrev pub NumberAfter : Type 0
+NumberAfter =
+    (w v : ℕ) → (v + 1 ≡ 2 ^ (8 * w) → numberAfter (w, v) ≡ (w, 0)) × (v + 1 < 2 ^ (8 * w) → numberAfter (w, v) ≡ (w, v + 1))
 
 -- an accepted put moves it by one; a refused call, a delivery, a step, a cancel or a reset leaves it
 abbrev pub moves : Event → TransactionSeqNum → TransactionSeqNum
