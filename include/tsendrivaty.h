@@ -1,0 +1,354 @@
+/* Tsendrivaty: the sending side of CFDP (CCSDS 727.0-B-5) as six C functions over one handler, which lives in memory that you lend.
+ *
+ * The archive is made by `rt staticlib seam` (target/staticlib/libseam.a, x86-64 Linux, position independent). It allocates nothing, keeps
+ * nothing outside your struct, calls nothing but memcpy, memmove, memset and memcmp of the C library, and uses no thread, clock or file.
+ * docs/SEAM.md is the guide, docs/REFUSALS.md says what to do about each refusal.
+ *
+ * WHAT YOU MUST KEEP
+ *  - The pointer to the handler points to sizeof(struct tsendrivaty_handler) bytes of your memory, aligned to 8. What is in them may be anything: every bit
+ *    pattern is a state, and every call returns on it.
+ *  - A slice is a pointer and a length. The pointer is not null, also where the length is 0, and that many bytes can be read (in `out`: written).
+ *  - Slices don't overlap the handler, and `out` overlaps no other slice.
+ *  - One call at a time on one handler. Different handlers know nothing of each other.
+ *  - From an accepted put until the step is Idle again, lend the same file, unchanged, at every step. Only its length is tested (30).
+ *  - Expiry is a level: once the timer has run out, say `expired` at every step until a report starts a timer again.
+ *  - After each accepted step take report.length bytes from the front of `out` and send them, before you lend `out` again.
+ */
+#ifndef TSENDRIVATY_H
+#define TSENDRIVATY_H
+
+/* Freestanding headers where the compiler has them; a compiler that came without any (the kit's clang) names the types itself. */
+#if defined(__has_include)
+#if __has_include(<stdint.h>) && __has_include(<stddef.h>)
+#define TSENDRIVATY_HAS_STDINT 1
+#endif
+#else
+#define TSENDRIVATY_HAS_STDINT 1
+#endif
+#ifdef TSENDRIVATY_HAS_STDINT
+#include <stddef.h>
+#include <stdint.h>
+#else
+typedef __UINT8_TYPE__ uint8_t;
+typedef __UINT32_TYPE__ uint32_t;
+typedef __UINT64_TYPE__ uint64_t;
+typedef __SIZE_TYPE__ size_t;
+#ifndef offsetof
+#define offsetof(type, member) __builtin_offsetof(type, member)
+#endif
+#endif
+
+#ifdef __cplusplus
+#define TSENDRIVATY_ASSERT(holds, says) static_assert(holds, says)
+extern "C" {
+#else
+#define TSENDRIVATY_ASSERT(holds, says) _Static_assert(holds, says)
+#endif
+
+/* ---- Answers: 0, or the number of document 01's refusal. A refused call changes no number of the handler and no byte of `out`. */
+
+enum tsendrivaty_answer {
+    TSENDRIVATY_ACCEPTED = 0,
+    /* put */
+    TSENDRIVATY_ALREADY_BUSY = 1,
+    TSENDRIVATY_BAD_ID_WIDTH = 2,
+    TSENDRIVATY_NO_REMOTE_CFG_FOUND = 3,
+    TSENDRIVATY_BAD_CONFIG = 4,
+    TSENDRIVATY_BAD_NAME_LENGTH = 5,
+    TSENDRIVATY_SOURCE_FILE_NOT_VALID_UTF8 = 6,
+    TSENDRIVATY_DEST_FILE_NOT_VALID_UTF8 = 7,
+    TSENDRIVATY_PACKET_LIMIT = 8,
+    /* deliver; tested in the order 20, 21, 23, 22, 24, 25 */
+    TSENDRIVATY_MALFORMED = 20,
+    TSENDRIVATY_CANT_PROCESS_PACKET_TYPE = 21,
+    TSENDRIVATY_UNEXPECTED_PDU = 22,
+    TSENDRIVATY_OTHER_TRANSACTION = 23,
+    TSENDRIVATY_INVALID_NAK_PDU = 24,
+    TSENDRIVATY_RETRANSMIT_FULL = 25,
+    /* step */
+    TSENDRIVATY_FILE_CHANGED = 30,
+    TSENDRIVATY_OUT_TOO_SMALL = 31
+};
+
+/* Where a transaction stands. */
+enum tsendrivaty_step_number {
+    TSENDRIVATY_IDLE = 0,
+    TSENDRIVATY_SENDING_METADATA = 1,
+    TSENDRIVATY_SENDING_FILE_DATA = 2,
+    TSENDRIVATY_SENDING_EOF = 3,
+    TSENDRIVATY_WAITING_FOR_EOF_ACK = 4,
+    TSENDRIVATY_WAITING_FOR_FINISHED = 5,
+    TSENDRIVATY_CLOSING = 6
+};
+
+/* Words for the bytes below. */
+enum { TSENDRIVATY_CANCEL = 1, TSENDRIVATY_IGNORE = 3, TSENDRIVATY_ABANDON = 4 };                     /* fault actions */
+enum { TSENDRIVATY_MODULAR = 0, TSENDRIVATY_CRC32C = 2, TSENDRIVATY_CRC32 = 3, TSENDRIVATY_NULL = 15 }; /* checksum types */
+enum { TSENDRIVATY_NO_TIMER = 0, TSENDRIVATY_ACK_TIMER = 1, TSENDRIVATY_CHECK_TIMER = 2 };             /* report.timer */
+enum { TSENDRIVATY_NO = 0, TSENDRIVATY_YES = 1, TSENDRIVATY_AS_ENTRY = 2 };                            /* put's mode and closure */
+
+/* ---- Numbers. A width in bytes, 1, 2, 4 or 8, and a value that fits it. Two types, so that one can't stand for the other. */
+
+struct tsendrivaty_entity_id {
+    uint8_t width;
+    uint64_t value;
+};
+
+struct tsendrivaty_sequence_number {
+    uint8_t width;
+    uint64_t value;
+};
+
+/* ---- The configuration. YOU write it, before a put; no call changes it, and only put reads it: what a transaction needs of it is copied.
+ * A flag is a byte, here and below: 0 is clear, any other is set. */
+
+struct tsendrivaty_remote {
+    struct tsendrivaty_entity_id id; /* compared with the put's destination by value alone */
+    uint64_t maxpacket;              /* longest PDU, at most 4,096; lend `out` of this length and no step is refused for room */
+    uint64_t maxsegment;             /* most file bytes in a PDU, at least 1; 2^64 - 1 for no limit of its own */
+    uint8_t checksum;                /* 0 modular, 2 CRC-32C, 3 CRC-32, 15 null */
+    uint8_t crc;                     /* flag: a CRC-16 closes each PDU */
+    uint8_t unacknowledged;          /* flag: the mode, where the put doesn't say */
+    uint8_t closure;                 /* flag: closure requested, where the put doesn't say; matters in unacknowledged mode only */
+    uint8_t limit;                   /* how many expiries of the ack timer are a fault; 0 acts as 1 */
+};
+
+struct tsendrivaty_config {
+    struct tsendrivaty_entity_id id;      /* your own */
+    struct tsendrivaty_remote remotes[8]; /* the first with the destination's id value is used */
+    size_t count;                         /* how many of them are looked at; above 8 acts as 8 */
+    uint8_t actions[16];                  /* by condition code: 1 cancel, 3 ignore, 4 abandon. All sixteen are judged; 1 (ack limit) and 10 (check limit) occur */
+    uint8_t eofsent;                      /* flag: steps tell of each EOF that leaves */
+    uint8_t finished;                     /* flag: steps tell of the transaction's end */
+};
+
+/* ---- The state. The CALLS write it. Read it if you like; keep it, save it and bring it back as a whole. */
+
+/* What the accepted put fixed. All zero when Idle. */
+struct tsendrivaty_transaction {
+    struct tsendrivaty_entity_id source;      /* both ids have the larger of the two widths */
+    struct tsendrivaty_sequence_number number;
+    struct tsendrivaty_entity_id destination;
+    uint64_t segment;       /* L: file bytes in a PDU */
+    uint64_t size;          /* S: the file's length */
+    uint8_t actions[16];
+    uint8_t unacknowledged; /* this and the next three are flags */
+    uint8_t crc;
+    uint8_t large;          /* the file is longer than 4,294,967,295 bytes */
+    uint8_t closure;
+    uint8_t checksum;
+    uint8_t limit;
+    uint8_t eofsent;        /* flag */
+    uint8_t finished;       /* flag */
+};
+
+/* Both names, copied at the put, zeros behind. */
+struct tsendrivaty_names {
+    uint8_t source[255];
+    uint8_t sourcelen;
+    uint8_t destination[255];
+    uint8_t destinationlen;
+};
+
+/* What the last EOF said, kept so that it can be sent again. */
+struct tsendrivaty_eof {
+    uint8_t condition;
+    uint32_t sum;
+    uint64_t size;
+};
+
+struct tsendrivaty_file {
+    uint64_t progress;          /* first-pass bytes of the file that have left; repairs don't move it */
+    struct tsendrivaty_eof eof;
+};
+
+/* One request of a NAK: the bytes from start up to end; (0, 0) asks for the metadata. */
+struct tsendrivaty_request {
+    uint64_t start;
+    uint64_t end;
+};
+
+/* Repairs that are owed, the oldest first. */
+struct tsendrivaty_queue {
+    struct tsendrivaty_request places[64];
+    size_t count;
+};
+
+/* The values of a Finished PDU, or of the finished event. */
+struct tsendrivaty_finished {
+    uint8_t condition; /* 0 no error */
+    uint8_t delivery;  /* 0 complete, 1 incomplete */
+    uint8_t status;    /* 0 discarded, 1 rejected, 2 retained, 3 unreported */
+};
+
+struct tsendrivaty_marks {
+    uint8_t cancelled; /* flag */
+    uint8_t owed;      /* flag: the cancel's EOF has not left yet */
+    uint8_t condition; /* the cancel's */
+    uint8_t count;     /* expiries since the EOF */
+    struct tsendrivaty_finished finished;
+    uint8_t anomalies; /* 0 in every state that calls can reach from a new handler */
+};
+
+/* ---- The report. The CALLS write it, YOU read it after an accepted step. An accepted call of another kind clears it, a refused call leaves it.
+ * Each event occurs at most once in a step, and they occurred in this order: transaction, eofsent, fault, finished, timer. */
+
+struct tsendrivaty_report {
+    uint64_t length;        /* so many bytes in front of `out` are the PDU to send; 0: the step emitted none */
+    uint64_t progress;      /* of the fault: progress when it was declared */
+    struct tsendrivaty_entity_id source;       /* whose the events are: source id and number of the transaction */
+    struct tsendrivaty_sequence_number number;
+    uint8_t transaction;    /* 1: the transaction has begun (with the first metadata PDU) */
+    uint8_t eofsent;        /* 1: an EOF is in `out` */
+    uint8_t fault;          /* 1: a fault was declared */
+    uint8_t action;         /* of the fault: 1 cancel, 3 ignore, 4 abandon */
+    uint8_t condition;      /* of the fault: 1 ack limit, 10 check limit */
+    uint8_t finished;       /* 1: the transaction is over, with `values` */
+    struct tsendrivaty_finished values;
+    uint8_t timer;          /* 0 none; start now, running or not: 1 the ack timer, 2 the check timer */
+};
+
+/* ---- The handler. Padding between fields has no meaning: no call reads it, and a call may change it. */
+
+struct tsendrivaty_handler {
+    struct tsendrivaty_config config;          /* written by you */
+    struct tsendrivaty_sequence_number number; /* the next put's; only an accepted put moves it, and after the last of its width comes 0 */
+    uint8_t step;                              /* enum tsendrivaty_step_number; any other number acts as 0, Idle */
+    struct tsendrivaty_transaction transaction;
+    struct tsendrivaty_names names;
+    struct tsendrivaty_file file;
+    struct tsendrivaty_queue queue;
+    struct tsendrivaty_marks marks;
+    struct tsendrivaty_report report;          /* read by you */
+};
+
+/* ---- The calls */
+
+/* Makes a handler whose first put takes this number; the configuration stays as it is, and all else is cleared. Returns 0. A number that breaks the rule
+ * (width 3, or a value too large) is stored, and every put then answers 2. */
+uint32_t tsendrivaty_new(struct tsendrivaty_handler *handler, uint8_t width, uint64_t number);
+
+/* Puts a file of `size` bytes to the entity `destination`. Reads no byte of the file. `unacknowledged` and `closure`: 0 no, 1 yes, any other as the
+ * table's entry says. The names are 1 to 255 bytes of UTF-8 each, and are copied. Returns 0, or 1 to 8. */
+uint32_t tsendrivaty_put(struct tsendrivaty_handler *handler, uint8_t width, uint64_t destination, uint8_t unacknowledged, uint8_t closure,
+                         const uint8_t *source_name, size_t source_name_length, const uint8_t *destination_name, size_t destination_name_length,
+                         uint64_t size);
+
+/* Takes one whole PDU from the link, nothing in front of it or behind. Returns 0, or 20 to 25. Emits nothing: what is owed leaves with later steps. */
+uint32_t tsendrivaty_deliver(struct tsendrivaty_handler *handler, const uint8_t *bytes, size_t length);
+
+/* Makes one step over the lent file, emits at most one PDU in front of `out`, and fills the report; bytes of `out` behind the PDU stay. `expired` is a
+ * flag: the timer has run out. Returns 0, 30 or 31; those two undo the step wholly: make it again with the right file or a larger `out`. */
+uint32_t tsendrivaty_step(struct tsendrivaty_handler *handler, const uint8_t *file, size_t file_length, uint8_t expired, uint8_t *out, size_t out_length);
+
+/* The user's cancel of the transaction with this source id and number (compared by value). Returns 1 for yes, and the EOF leaves with the next step; 0 for
+ * no, and nothing changed: Idle, closing, already cancelled, or another transaction. */
+uint32_t tsendrivaty_cancel(struct tsendrivaty_handler *handler, uint8_t source_width, uint64_t source, uint8_t number_width, uint64_t number);
+
+/* Idle at once, whatever was under way; nothing is sent. The next put's number and the configuration stay. Returns 0. */
+uint32_t tsendrivaty_reset(struct tsendrivaty_handler *handler);
+
+/* ---- The layout that the archive was built with (C's own, on 64 bits): a compiler that lays the struct out otherwise stops here */
+
+#define TSENDRIVATY_AT(type, field, place) TSENDRIVATY_ASSERT(offsetof(struct tsendrivaty_##type, field) == place, #type "." #field " is not at " #place)
+#define TSENDRIVATY_SIZE(type, bytes) TSENDRIVATY_ASSERT(sizeof(struct tsendrivaty_##type) == bytes, #type " has not " #bytes " bytes")
+
+TSENDRIVATY_SIZE(entity_id, 16);
+TSENDRIVATY_AT(entity_id, width, 0);
+TSENDRIVATY_AT(entity_id, value, 8);
+TSENDRIVATY_SIZE(sequence_number, 16);
+TSENDRIVATY_AT(sequence_number, width, 0);
+TSENDRIVATY_AT(sequence_number, value, 8);
+TSENDRIVATY_SIZE(remote, 40);
+TSENDRIVATY_AT(remote, id, 0);
+TSENDRIVATY_AT(remote, maxpacket, 16);
+TSENDRIVATY_AT(remote, maxsegment, 24);
+TSENDRIVATY_AT(remote, checksum, 32);
+TSENDRIVATY_AT(remote, crc, 33);
+TSENDRIVATY_AT(remote, unacknowledged, 34);
+TSENDRIVATY_AT(remote, closure, 35);
+TSENDRIVATY_AT(remote, limit, 36);
+TSENDRIVATY_SIZE(config, 368);
+TSENDRIVATY_AT(config, id, 0);
+TSENDRIVATY_AT(config, remotes, 16);
+TSENDRIVATY_AT(config, count, 336);
+TSENDRIVATY_AT(config, actions, 344);
+TSENDRIVATY_AT(config, eofsent, 360);
+TSENDRIVATY_AT(config, finished, 361);
+TSENDRIVATY_SIZE(transaction, 88);
+TSENDRIVATY_AT(transaction, source, 0);
+TSENDRIVATY_AT(transaction, number, 16);
+TSENDRIVATY_AT(transaction, destination, 32);
+TSENDRIVATY_AT(transaction, segment, 48);
+TSENDRIVATY_AT(transaction, size, 56);
+TSENDRIVATY_AT(transaction, actions, 64);
+TSENDRIVATY_AT(transaction, unacknowledged, 80);
+TSENDRIVATY_AT(transaction, crc, 81);
+TSENDRIVATY_AT(transaction, large, 82);
+TSENDRIVATY_AT(transaction, closure, 83);
+TSENDRIVATY_AT(transaction, checksum, 84);
+TSENDRIVATY_AT(transaction, limit, 85);
+TSENDRIVATY_AT(transaction, eofsent, 86);
+TSENDRIVATY_AT(transaction, finished, 87);
+TSENDRIVATY_SIZE(names, 512);
+TSENDRIVATY_AT(names, source, 0);
+TSENDRIVATY_AT(names, sourcelen, 255);
+TSENDRIVATY_AT(names, destination, 256);
+TSENDRIVATY_AT(names, destinationlen, 511);
+TSENDRIVATY_SIZE(eof, 16);
+TSENDRIVATY_AT(eof, condition, 0);
+TSENDRIVATY_AT(eof, sum, 4);
+TSENDRIVATY_AT(eof, size, 8);
+TSENDRIVATY_SIZE(file, 24);
+TSENDRIVATY_AT(file, progress, 0);
+TSENDRIVATY_AT(file, eof, 8);
+TSENDRIVATY_SIZE(request, 16);
+TSENDRIVATY_AT(request, start, 0);
+TSENDRIVATY_AT(request, end, 8);
+TSENDRIVATY_SIZE(queue, 1032);
+TSENDRIVATY_AT(queue, places, 0);
+TSENDRIVATY_AT(queue, count, 1024);
+TSENDRIVATY_SIZE(finished, 3);
+TSENDRIVATY_AT(finished, condition, 0);
+TSENDRIVATY_AT(finished, delivery, 1);
+TSENDRIVATY_AT(finished, status, 2);
+TSENDRIVATY_SIZE(marks, 8);
+TSENDRIVATY_AT(marks, cancelled, 0);
+TSENDRIVATY_AT(marks, owed, 1);
+TSENDRIVATY_AT(marks, condition, 2);
+TSENDRIVATY_AT(marks, count, 3);
+TSENDRIVATY_AT(marks, finished, 4);
+TSENDRIVATY_AT(marks, anomalies, 7);
+TSENDRIVATY_SIZE(report, 64);
+TSENDRIVATY_AT(report, length, 0);
+TSENDRIVATY_AT(report, progress, 8);
+TSENDRIVATY_AT(report, source, 16);
+TSENDRIVATY_AT(report, number, 32);
+TSENDRIVATY_AT(report, transaction, 48);
+TSENDRIVATY_AT(report, eofsent, 49);
+TSENDRIVATY_AT(report, fault, 50);
+TSENDRIVATY_AT(report, action, 51);
+TSENDRIVATY_AT(report, condition, 52);
+TSENDRIVATY_AT(report, finished, 53);
+TSENDRIVATY_AT(report, values, 54);
+TSENDRIVATY_AT(report, timer, 57);
+TSENDRIVATY_SIZE(handler, 2120);
+TSENDRIVATY_AT(handler, config, 0);
+TSENDRIVATY_AT(handler, number, 368);
+TSENDRIVATY_AT(handler, step, 384);
+TSENDRIVATY_AT(handler, transaction, 392);
+TSENDRIVATY_AT(handler, names, 480);
+TSENDRIVATY_AT(handler, file, 992);
+TSENDRIVATY_AT(handler, queue, 1016);
+TSENDRIVATY_AT(handler, marks, 2048);
+TSENDRIVATY_AT(handler, report, 2056);
+#ifdef __cplusplus
+TSENDRIVATY_ASSERT(alignof(struct tsendrivaty_handler) == 8, "the handler is not aligned to 8");
+#else
+TSENDRIVATY_ASSERT(_Alignof(struct tsendrivaty_handler) == 8, "the handler is not aligned to 8");
+#endif
+
+#ifdef __cplusplus
+}
+#endif
+#endif
