@@ -249,9 +249,8 @@ def show(program, run):
             return
 
 
-def main():
-    count, seed = int(sys.argv[1]), int(sys.argv[2])
-    program = command(os.path.abspath(sys.argv[3] if len(sys.argv) > 3 else os.path.join(ROOT, 'target', 'bin', 'drive')))
+def compare(program, count, seed):
+    """1 if a list differs. `program` is the words that start it."""
     calls = puts = 0
     for k in range(count):
         rng = random.Random(seed * 1000003 + k)
@@ -264,6 +263,11 @@ def main():
         puts += sum(c[0] == 'put' for c in run.calls)
     print('%d lists, %d calls, %d of them puts: all as the model says' % (count, calls, puts))
     return 0
+
+
+def main():
+    program = command(os.path.abspath(sys.argv[3] if len(sys.argv) > 3 else os.path.join(ROOT, 'target', 'bin', 'drive')))
+    return compare(program, int(sys.argv[1]), int(sys.argv[2]))
 
 
 if __name__ == '__main__':

@@ -1,0 +1,370 @@
+/* A test host in C: runs the six functions over one handler and prints a line for each call; tests/link compares the lines with expected.txt, whose
+ * bytes are the model's. Beside that, each call is watched: a refused one may change no number of the handler and no byte of `out`, no call may touch the
+ * configuration, the lent slices, bytes of `out` behind the PDU, or what lies around the handler and `out`. host.rs prints the same. */
+#include "../../include/tsendrivaty.h"
+
+int printf(const char *, ...); /* by hand: the kit's compiler has no headers of the C library */
+int memcmp(const void *, const void *, size_t);
+void *memcpy(void *, const void *, size_t);
+void *memset(void *, int, size_t);
+
+#define ROOM 4608
+#define EDGE 64
+
+static struct {
+    uint8_t before[EDGE];
+    struct tsendrivaty_handler h;
+    uint8_t between[EDGE];
+    uint8_t out[ROOM];
+    uint8_t behind[EDGE];
+} m, was;
+static const uint8_t *file = (const uint8_t *)"ABCDEFGHIJKLMNOPQRST";
+static size_t lent;
+static int wrong;
+
+/* ---- watching */
+
+/* Whether two handlers hold the same numbers: bytes of padding count for nothing. */
+static int same(const struct tsendrivaty_handler *a, const struct tsendrivaty_handler *b) {
+    static struct tsendrivaty_handler x, y;
+    struct tsendrivaty_handler *both[2] = {&x, &y};
+    memcpy(&x, a, sizeof x);
+    memcpy(&y, b, sizeof y);
+    for (int k = 0; k < 2; k++) {
+        struct tsendrivaty_handler *h = both[k];
+        struct tsendrivaty_entity_id *ids[] = {&h->config.id, &h->transaction.source, &h->transaction.destination, &h->report.source};
+        struct tsendrivaty_sequence_number *numbers[] = {&h->number, &h->transaction.number, &h->report.number};
+        for (int i = 0; i < 4; i++) memset(&ids[i]->width + 1, 0, 7);
+        for (int i = 0; i < 3; i++) memset(&numbers[i]->width + 1, 0, 7);
+        for (int i = 0; i < 8; i++) {
+            memset(&h->config.remotes[i].id.width + 1, 0, 7);
+            memset(&h->config.remotes[i].limit + 1, 0, 3);
+        }
+        memset(&h->config.finished + 1, 0, 6);
+        memset(&h->step + 1, 0, 7);
+        memset(&h->file.eof.condition + 1, 0, 3);
+        memset(&h->report.timer + 1, 0, 6);
+    }
+    return memcmp(&x, &y, sizeof x) == 0;
+}
+
+static void watch(void) {
+    memcpy(&was, &m, sizeof m);
+}
+
+/* `length` bytes of `out` may be new. */
+static void watched(int refused, size_t length) {
+    int ok = memcmp(m.before, was.before, EDGE) == 0 && memcmp(m.between, was.between, EDGE) == 0 && memcmp(m.behind, was.behind, EDGE) == 0;
+    struct tsendrivaty_handler h = was.h;
+    memcpy(&h.config, &m.h.config, sizeof h.config);
+    ok = ok && same(&h, &was.h) && length <= ROOM && memcmp(m.out + length, was.out + length, ROOM - length) == 0;
+    if (refused) ok = ok && length == 0 && same(&m.h, &was.h);
+    if (!ok) wrong++;
+    printf(ok ? "\n" : " CHANGED\n");
+}
+
+/* ---- calls, each a line */
+
+static void fresh(const char *label, uint8_t width, uint64_t number, size_t length) {
+    printf("== %s\n", label);
+    memset(&m, 0xA5, sizeof m);
+    memset(&m.h.config, 0, sizeof m.h.config);
+    m.h.config.id.width = 1;
+    m.h.config.id.value = 1;
+    m.h.config.count = 1;
+    m.h.config.remotes[0] = (struct tsendrivaty_remote){.id = {1, 2}, .maxpacket = 17, .maxsegment = 4, .limit = 2};
+    memset(m.h.config.actions, TSENDRIVATY_CANCEL, 16);
+    m.h.config.eofsent = m.h.config.finished = 1;
+    tsendrivaty_new(&m.h, width, number);
+    lent = length;
+}
+
+static void put_named(uint8_t width, uint64_t to, uint8_t unacknowledged, uint8_t closure, const char *s, size_t sn, const char *d, size_t dn) {
+    watch();
+    uint32_t r = tsendrivaty_put(&m.h, width, to, unacknowledged, closure, (const uint8_t *)s, sn, (const uint8_t *)d, dn, lent);
+    printf("put %u", r);
+    watched(r != 0, 0);
+}
+
+static void put(uint8_t unacknowledged, uint8_t closure) {
+    put_named(1, 2, unacknowledged, closure, "a", 1, "b", 1);
+}
+
+static void deliver(const uint8_t *pdu, size_t n) {
+    watch();
+    uint32_t r = tsendrivaty_deliver(&m.h, pdu, n);
+    printf("deliver %u", r);
+    watched(r != 0, 0);
+}
+
+static void step_in(size_t length, int expired, size_t room) {
+    watch();
+    uint32_t r = tsendrivaty_step(&m.h, file, length, (uint8_t)expired, m.out, room);
+    const struct tsendrivaty_report *e = &m.h.report;
+    size_t n = r ? 0 : e->length;
+    printf("step %u ", r);
+    for (size_t i = 0; i < n && i < ROOM; i++) printf("%02x", m.out[i]);
+    if (!n) printf("-");
+    if (!r) {
+        if (e->transaction) printf(" transaction");
+        if (e->eofsent) printf(" eof-sent");
+        if (e->fault) printf(" fault %u %u %lu", e->action, e->condition, (unsigned long)e->progress);
+        if (e->finished) printf(" finished %u %u %u", e->values.condition, e->values.delivery, e->values.status);
+        if (e->timer) printf(e->timer == TSENDRIVATY_ACK_TIMER ? " ack-timer" : " check-timer");
+        if (e->transaction || e->eofsent || e->fault || e->finished || e->timer)
+            printf(" of %u:%lu %u:%lu", e->source.width, (unsigned long)e->source.value, e->number.width, (unsigned long)e->number.value);
+    }
+    watched(r != 0, n);
+}
+
+static void steps(int n, int expired) {
+    while (n--) step_in(lent, expired, ROOM);
+}
+
+static void cancel(uint64_t source, uint64_t number) {
+    watch();
+    uint32_t r = tsendrivaty_cancel(&m.h, 1, source, 1, number);
+    printf("cancel %s", r == 1 ? "yes" : r == 0 ? "no" : "?");
+    watched(r == 0, 0);
+}
+
+static void reset(void) {
+    watch();
+    uint32_t r = tsendrivaty_reset(&m.h);
+    printf(r ? "reset ?" : "reset");
+    watched(0, 0);
+}
+
+/* Deliveries of the transaction 1, NUMBER, 2 without CRC. */
+static void directive(uint8_t number, const uint8_t *body, size_t n) {
+    static uint8_t pdu[2048];
+    const uint8_t head[] = {0x28, (uint8_t)(n >> 8), (uint8_t)n, 0, 1, number, 2};
+    memcpy(pdu, head, sizeof head);
+    memcpy(pdu + sizeof head, body, n);
+    deliver(pdu, sizeof head + n);
+}
+
+static void nak(uint8_t number, const uint32_t *pairs, size_t n) {
+    static uint8_t body[1200];
+    size_t at = 9;
+    memset(body, 0, at);
+    body[0] = 8;
+    for (size_t i = 0; i < 2 * n; i++)
+        for (int k = 24; k >= 0; k -= 8) body[at++] = (uint8_t)(pairs[i] >> k);
+    directive(number, body, at);
+}
+
+static void ack_of_eof(uint8_t number) {
+    directive(number, (const uint8_t[]){6, 0x40, 1}, 3);
+}
+
+static void finished(uint8_t number, uint8_t values) {
+    directive(number, (const uint8_t[]){5, values}, 2);
+}
+
+/* ---- runs; make_expected.py has the same */
+
+static void byte_cases(void) {
+    fresh("M1 to M4", 1, 7, 5);
+    put(1, 0);
+    steps(5, 0);
+}
+
+static void acknowledged(void) {
+    fresh("acknowledged, with repairs longer than L", 1, 7, 20);
+    put(0, 2);
+    steps(3, 0);
+    nak(7, (const uint32_t[]){0, 7, 0, 0, 3, 3, 1, 8}, 4);
+    steps(6, 1);
+    nak(7, (const uint32_t[]){0, 12}, 1);
+    steps(6, 0);
+    steps(1, 1);
+    nak(7, (const uint32_t[]){0, 20, 19, 20}, 2);
+    ack_of_eof(7);
+    steps(7, 1);
+    finished(7, 0x02);
+    steps(2, 0);
+}
+
+static void refusals(void) {
+    fresh("every refusal", 1, 7, 5);
+    put_named(3, 2, 0, 0, "a", 1, "b", 1);
+    put_named(1, 3, 0, 0, "a", 1, "b", 1);
+    m.h.config.actions[3] = 2;
+    put(0, 0);
+    m.h.config.actions[3] = 1;
+    put_named(1, 2, 0, 0, "", 0, "b", 1);
+    put_named(1, 2, 0, 0, "\xC0\x80", 2, "b", 1);
+    put_named(1, 2, 0, 0, "a", 1, "\xED\xA0\x80", 3);
+    m.h.config.remotes[0].maxpacket = 16;
+    put(0, 0);
+    m.h.config.remotes[0].maxpacket = 17;
+    put(0, 0);
+    put(0, 0);
+    step_in(4, 0, ROOM);
+    step_in(5, 0, 16);
+    step_in(5, 0, 17);
+    steps(1, 0);
+    deliver((const uint8_t *)"", 0);
+    directive(7, (const uint8_t[]){6, 0x40}, 2);
+    directive(7, (const uint8_t[]){4, 0}, 2);
+    ack_of_eof(8);
+    ack_of_eof(7);
+    nak(7, (const uint32_t[]){0, 4, 0, 5}, 2);
+    static uint32_t many[130];
+    nak(7, many, 65);
+    nak(7, many, 64);
+    nak(7, many, 1);
+    steps(1, 0);
+    nak(7, many, 1);
+    step_in(6, 1, ROOM);
+    step_in(5, 1, 3);
+}
+
+static void cancels(void) {
+    fresh("cancel, reset, second put", 1, 255, 5);
+    cancel(1, 255);
+    put(0, 0);
+    steps(2, 0);
+    cancel(1, 7);
+    cancel(2, 255);
+    cancel(1, 255);
+    cancel(1, 255);
+    nak(255, (const uint32_t[]){0, 4}, 1);
+    steps(1, 0);
+    ack_of_eof(255);
+    finished(255, 0xF5);
+    cancel(1, 255);
+    steps(2, 0);
+    put(1, 0);
+    steps(2, 0);
+    reset();
+    steps(1, 0);
+    put(1, 1);
+    steps(5, 0);
+    steps(2, 1);
+}
+
+static void wide(void) {
+    fresh("wide numbers, CRCs, faults", 8, 0xFFFFFFFFFFFFFFFF, 20);
+    m.h.config.id = (struct tsendrivaty_entity_id){2, 0x1234};
+    m.h.config.count = 9;
+    m.h.config.remotes[7] = (struct tsendrivaty_remote){{8, 0x89ABCDEF}, 4096, 7, TSENDRIVATY_CRC32C, 255, 0, 0, 1};
+    m.h.config.actions[1] = TSENDRIVATY_IGNORE;
+    put_named(4, 0x89ABCDEF, 2, 2, "\xC3\xA9", 2, "\xF0\x9F\x98\x80", 4);
+    steps(5, 0);
+    steps(2, 1);
+    reset();
+    m.h.config.actions[1] = TSENDRIVATY_CANCEL;
+    m.h.config.remotes[7].checksum = TSENDRIVATY_CRC32;
+    put_named(4, 0x89ABCDEF, 2, 2, "\xC3\xA9", 2, "\xF0\x9F\x98\x80", 4);
+    steps(5, 0);
+    steps(2, 1);
+    put_named(4, 0x89ABCDEF, 2, 2, "\xC3\xA9", 2, "\xF0\x9F\x98\x80", 4);
+    deliver((const uint8_t *)"\x2A\x00\x07\x37\x00\x00\x12\x34\x00\x00\x00\x00\x00\x00\x00\x01\x89\xAB\xCD\xEF\x0C\x00\x00\x00\x00\xAA\xB6", 27);
+    steps(1, 255);
+}
+
+/* ---- memory that holds anything at all: every call returns one of document 01's numbers, and is watched as above */
+
+static uint64_t seed;
+
+static uint64_t some(void) {
+    seed ^= seed << 13;
+    seed ^= seed >> 7;
+    seed ^= seed << 17;
+    return seed;
+}
+
+static void filled(int way) {
+    uint8_t *h = (uint8_t *)&m.h;
+    for (size_t i = 0; i < sizeof m.h; i++) h[i] = way == 0 ? 0xFF : (uint8_t)some();
+    if (way < 2) return;
+    m.h.step = (uint8_t)(some() % 8); /* near enough to a state that steps are made and deliveries taken */
+    m.h.transaction.size = lent;
+    m.h.transaction.segment = some() % 4 ? some() % 9 : some();
+    m.h.file.progress = some() % 4 ? some() % 22 : some();
+    m.h.queue.count = some() % 4 ? some() % 66 : some();
+    for (int i = 0; i < 64; i++) {
+        m.h.queue.places[i].start = some() % 4 ? some() % 22 : some();
+        m.h.queue.places[i].end = some() % 4 ? some() % 22 : some();
+    }
+}
+
+static size_t some_pdu(uint8_t *p) {
+    const struct tsendrivaty_transaction *t = &m.h.transaction;
+    static const uint8_t bodies[4][3] = {{6, 0x40, 1}, {5, 2, 0}, {8, 0, 0}, {12, 0, 0}};
+    size_t kind = some() % 4, n = kind == 0 ? 3 : kind == 1 ? 2 : kind == 2 ? 9 + 8 * (some() % 70) : 5, at = 4;
+    p[0] = 0x28;
+    p[1] = (uint8_t)(n >> 8);
+    p[2] = (uint8_t)n;
+    p[3] = 0x77;
+    const uint64_t ids[3] = {t->source.value, t->number.value, t->destination.value};
+    for (int i = 0; i < 3; i++)
+        for (int k = 56; k >= 0; k -= 8) p[at++] = (uint8_t)(ids[i] >> k);
+    for (size_t i = 0; i < n; i++) p[at++] = i < 3 ? bodies[kind][i] : (i - 1) % 4 == 3 ? (uint8_t)(some() % 22) : 0;
+    if (some() % 4 == 0) p[some() % at] = (uint8_t)some();
+    return at;
+}
+
+static int known(uint32_t r) {
+    return r <= 8 || (r >= 20 && r <= 25) || r == 30 || r == 31;
+}
+
+static int one_call(int call) {
+    static uint8_t bytes[700];
+    uint32_t r = 0;
+    size_t n = 0;
+    watch();
+    if (call == 0) {
+        size_t room = some() % 4 ? ROOM : some() % 40;
+        r = tsendrivaty_step(&m.h, file, some() % 9 ? lent : some() % 21, (uint8_t)some(), m.out, room);
+        n = r ? 0 : m.h.report.length;
+        if (n > room) return 0;
+    } else if (call == 1) {
+        n = some_pdu(bytes);
+        r = tsendrivaty_deliver(&m.h, bytes, n);
+        n = 0;
+    } else if (call == 2) {
+        for (n = 0; n < 300; n++) bytes[n] = (uint8_t)(some() % 128);
+        n = some() % 300;
+        r = tsendrivaty_put(&m.h, (uint8_t)(1u << some() % 5), m.h.config.remotes[some() % 8].id.value, (uint8_t)some(), (uint8_t)some(), bytes, n, bytes,
+                            n / 2 + 1, some());
+        n = 0;
+    } else if (call == 3) {
+        r = !tsendrivaty_cancel(&m.h, (uint8_t)some(), m.h.transaction.source.value, (uint8_t)some(), m.h.transaction.number.value);
+    } else if (call == 4) {
+        r = tsendrivaty_reset(&m.h);
+    } else {
+        r = tsendrivaty_new(&m.h, (uint8_t)some(), some());
+    }
+    struct tsendrivaty_handler h = was.h;
+    memcpy(&h.config, &m.h.config, sizeof h.config);
+    return known(r) && memcmp(m.before, was.before, EDGE) == 0 && memcmp(m.between, was.between, EDGE) == 0 && memcmp(m.behind, was.behind, EDGE) == 0
+        && same(&h, &was.h) && memcmp(m.out + n, was.out + n, ROOM - n) == 0 && (r == 0 || same(&m.h, &was.h));
+}
+
+static void garbage(int way, const char *label, int rounds) {
+    int calls = 0, good = 0;
+    seed = 0x9E3779B97F4A7C15;
+    lent = 20;
+    memset(&m, 0xA5, sizeof m);
+    for (int i = 0; i < rounds; i++) {
+        filled(way);
+        for (int k = 0; k < 12; k++, calls++) good += one_call(k < 6 ? k : (int)(some() % 6));
+    }
+    printf("garbage, %s: %d of %d calls returned as they must\n", label, good, calls);
+    wrong += good != calls;
+}
+
+int main(void) {
+    byte_cases();
+    acknowledged();
+    refusals();
+    cancels();
+    wide();
+    garbage(0, "every byte 255", 4);
+    garbage(1, "random", 1000);
+    garbage(2, "random, near a state", 3000);
+    return wrong != 0;
+}
