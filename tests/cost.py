@@ -1,82 +1,97 @@
 #!/usr/bin/env python3
-"""What a call costs: x86-64 instructions, counted exactly, as differences between runs of the program `drive` that differ in one call.
+"""What a call costs through the seam (docs/SEAM.md): x86-64 instructions counted exactly, bytes of state, deepest stack; and the same data step through source.rs.
 
-    rt check drive && python3 tests/cost.py
+    python3 tests/cost.py
 
-Each number includes what the host function adds (taking the call apart, writing its answer: the PDU's bytes once more). Instructions are counted by the kit's
-emulator where the kit has one (Arm), else by valgrind. Times are not taken.
+One run proves and builds the archive, links tests/seam/cost.c to it, and prints the table of docs/CHECKTIME.md. Instructions are the difference between two runs that
+differ in one call, counted by the kit's emulator where the kit has one, else by valgrind. Times are not taken. The Rust is cfdp-rs's own source.rs over stand-ins
+(tests/cfdp-rs/cost); where no cargo and no Rust for x86-64 can be had, it says SKIPPED.
 """
-import os, re, shutil, subprocess, sys, tempfile
+import os, re, shutil, subprocess, sys
 
 HERE = os.path.dirname(os.path.abspath(__file__))
-DRIVE = os.path.join(HERE, '..', 'target', 'bin', 'drive')
-HOME = os.environ.get('RATTLE_HOME') or os.path.dirname(os.path.dirname(os.path.realpath(shutil.which('rt'))))
-TOOLS = os.path.join(HOME, 'on', os.uname().machine, 'toolchain')
-QEMU = os.path.join(TOOLS, 'bin', 'qemu-x86_64')
+sys.path.insert(0, HERE)
+import hosts
+
+# The C library's copies by string instructions are turned off: one counts as many turns.
 TUNE = 'GLIBC_TUNABLES=glibc.cpu.x86_rep_stosb_threshold=100000000:glibc.cpu.x86_rep_movsb_threshold=100000000'
 
 
-def instructions(data):
-    with tempfile.NamedTemporaryFile() as f:
-        f.write(data)
-        f.flush()
-        if os.path.exists(QEMU):
-            run = [QEMU, '-E', TUNE, '-one-insn-per-tb', '-d', 'exec,nochain', '-D', '/dev/stderr', os.path.join(TOOLS, 'lib', 'ld-linux-x86-64.so.2'),
-                   '--library-path', os.path.join(TOOLS, 'lib'), DRIVE]
-            p = subprocess.Popen(run, stdin=open(f.name, 'rb'), stdout=subprocess.DEVNULL, stderr=subprocess.PIPE)
-            return sum(1 for line in p.stderr if line.startswith(b'Trace'))
-        p = subprocess.run(['valgrind', '--tool=callgrind', '--callgrind-out-file=/dev/null', DRIVE], stdin=open(f.name, 'rb'), stdout=subprocess.DEVNULL,
-                           stderr=subprocess.PIPE, text=True)
-        return int(re.search(r'Collected : (\d+)', p.stderr).group(1))
+def instructions(program, *words):
+    """Of the whole process, the loader and the C library with it."""
+    start = hosts.emulator()
+    if start:
+        run = [start[0], '-E', TUNE, '-one-insn-per-tb', '-d', 'exec,nochain', '-D', '/dev/stderr'] + start[1:] + [program, *words]
+        p = subprocess.Popen(run, stdout=subprocess.DEVNULL, stderr=subprocess.PIPE)
+        n = sum(1 for line in p.stderr if line.startswith(b'Trace'))
+        if p.wait():
+            raise hosts.Failed('%s %s: status %d' % (program, ' '.join(words), p.returncode))
+        return n
+    if not shutil.which('valgrind'):
+        raise hosts.Failed('no valgrind here to count instructions with')
+    name, _, value = TUNE.partition('=')
+    said = hosts.run(['valgrind', '--tool=callgrind', '--callgrind-out-file=/dev/null', program, *words], env=dict(os.environ, **{name: value}))
+    return int(re.search(r'Collected : (\d+)', said).group(1))
 
 
-def u(n, v):
-    return v.to_bytes(n, 'big')
+def shown(what, number):
+    print('%-58s %s' % (what, number), flush=True)
 
 
-def wide(width, value):
-    return u(1, width) + u(8, value)
+def comma(n):
+    return format(n, ',')
 
 
-def start(size, packet=4096, segment=4096, kind=15, crc=0):
-    entry = wide(1, 2) + u(8, packet) + u(8, segment) + bytes([kind, crc, 3])
-    config = wide(1, 1) + bytes([4] * 16) + bytes([3, 1]) + entry + bytes(28 * 7)
-    return wide(1, 7) + b'\1' + config + wide(1, 2) + bytes([1, 1]) + u(8, size) + b'\0\1a\0\1b'
+def seam():
+    """Prints the calls' costs; gives those of the two data steps."""
+    program = hosts.linked('cost', [hosts.c_object(os.path.join(HERE, 'seam', 'cost.c'), 'cost'), hosts.archive()])
+
+    def cost(case):
+        return instructions(program, case, '1') - instructions(program, case, '0')
+
+    copy = cost('copy')
+    data, data_crc = cost('data'), cost('data_crc')
+    shown('step, data PDU of 4,096 bytes, no CRC', '%s (one copy of its 4,085 bytes of file: %s)' % (comma(data), comma(copy)))
+    shown('step, data PDU of 4,096 bytes, CRC', comma(data_crc))
+    for name, case in (('step, data PDU with 100 bytes of file', 'data_100'), ('step, data PDU with 1 byte of file', 'data_1'), ('step, repair of 4,096 bytes', 'repair'),
+                       ('step, metadata', 'metadata'), ('step, refused (30)', 'refused'), ('deliver, NAK of 64 requests', 'nak_64'),
+                       ('deliver, NAK of 1 request', 'nak_1'), ('put, names of one byte', 'put'), ('cancel', 'cancel'), ('reset', 'reset')):
+        shown(name, comma(cost(case)))
+    null = cost('eof_null')
+    shown('step, EOF with the null checksum', comma(null))
+    for kind in 'modular', 'crc32c', 'crc32':
+        shown('checksum %s, instructions a byte' % kind, '%.2f' % ((cost('eof_' + kind) - null) / 4000))
+    shown('CRC-16 of a PDU, instructions a byte', '%.2f' % ((data_crc - data) / 4094))
+    sizes = dict(line.split() for line in hosts.run(hosts.emulator() + [program, 'size']).strip().split('\n'))
+    shown('bytes: handler', comma(int(sizes['handler'])))
+    shown('bytes: its state', '%s (queue %s, names %s)' % tuple(comma(int(sizes[k])) for k in ('state', 'queue', 'names')))
+    shown('bytes: its configuration, its report', '%s, %s' % (sizes['configuration'], sizes['report']))
+    deepest = {}
+    for line in hosts.run(hosts.emulator() + [program, 'stack']).strip().split('\n'):
+        call, depth, _ = line.split()
+        deepest[call] = max(int(depth), deepest.get(call, 0))
+    for call, depth in deepest.items():
+        shown('deepest stack: ' + call, comma(depth))
+    return data, data_crc
 
 
-def step(size):
-    return b'\3\0' + u(4, size) + u(4, 4096)
-
-
-def deliver(pdu):
-    return b'\2' + u(4, len(pdu)) + pdu
-
-
-def nak(pairs):
-    body = b'\x08' + u(4, 0) + u(4, 0) + b''.join(u(4, a) + u(4, b) for a, b in pairs)
-    return b'\x28' + u(2, len(body)) + bytes([0, 1, 7, 2]) + body
-
-
-def cost(file, before, call):
-    head = u(4, len(file)) + file
-    return instructions(head + before + call) - instructions(head + before)
+def source_rs(data, data_crc):
+    """The same data step through source.rs over the stand-ins."""
+    rust, why = hosts.rust()
+    if not rust or not shutil.which('cargo'):
+        print('SKIPPED: the step through source.rs: ' + (why or 'no cargo here'))
+        return
+    target = os.path.join(hosts.TARGET, 'cfdp-rs-x86')
+    hosts.run(['cargo', 'build', '--offline', '--release', '--quiet', '-j1', '-p', 'cost', '--target', hosts.TRIPLE], cwd=os.path.join(HERE, 'cfdp-rs'),
+              env=dict(rust.env, RUSTC=rust.words[0], CARGO_TARGET_DIR=target))
+    program = hosts.linked('cost_rs', [os.path.join(target, hosts.TRIPLE, 'release', 'libcost.a')])
+    for name, crc, ours in (('no CRC', '0', data), ('CRC', '1', data_crc)):
+        theirs = instructions(program, '4', crc) - instructions(program, '3', crc)
+        shown('source.rs over stand-ins, the same data PDU, ' + name, '%s; ours is %.2f times that' % (comma(theirs), ours / theirs))
 
 
 if __name__ == '__main__':
-    size = 32000
-    file = bytes(k * 7 % 256 for k in range(size))
-    s = step(size)
-    print('data step of 4,096 bytes, no CRC:', cost(file, start(size) + s * 3, s))
-    print('data step of 4,096 bytes, CRC:   ', cost(file, start(size, crc=1) + s * 3, s))
-    print('data step of 100 bytes, no CRC:  ', cost(file, start(size, segment=100) + s * 3, s))
-    after = start(size) + s * 3
-    print('repair step of 4,096 bytes:      ', cost(file, after + deliver(nak([(0, 8000)])), s))
-    print('delivery of a NAK of 64 requests:', cost(file, after, deliver(nak([(k, k + 9) for k in range(64)]))))
-    print('delivery of a NAK of 1 request:  ', cost(file, after, deliver(nak([(0, 9)]))))
-    print('put:                             ', cost(file, start(size)[:9], start(size)[9:]))
-    for kind, name in ((0, 'modular'), (2, 'CRC-32C'), (3, 'CRC-32'), (15, 'null')):
-        n = 4000
-        f = file[:n]
-        whole = cost(f, start(n, kind=kind) + step(n) * 2, step(n))
-        null = cost(f, start(n, kind=15) + step(n) * 2, step(n))
-        print(f'checksum {name}: {(whole - null) / n:.2f} a byte')
+    try:
+        source_rs(*seam())
+    except hosts.Failed as e:
+        sys.exit('FAILED: %s' % e)

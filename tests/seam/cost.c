@@ -1,0 +1,184 @@
+/* What tests/cost.py measures: `cost CASE N` prepares a case and makes its call N times (0 or 1; the difference of two runs is the call);
+ * `cost stack` prints how deep each call goes; `cost size` the bytes of the handler and of its parts. For the stack a
+ * call is made on a painted stack, and the paint that is gone is counted, the host's own few bytes with it. */
+#include "../../include/tsendrivaty.h"
+
+int printf(const char *, ...);
+int strcmp(const char *, const char *);
+void *memset(void *, int, size_t);
+void *memcpy(void *, const void *, size_t);
+
+#define SIZE 64000
+#define PAINT (256 * 1024)
+
+static struct tsendrivaty_handler h;
+static uint8_t file[SIZE], out[4096];
+static uint32_t answer;
+
+/* ---- the calls */
+
+static void configured(uint8_t crc, uint8_t checksum, uint64_t segment) {
+    memset(&h, 0, sizeof h);
+    h.config.id = (struct tsendrivaty_entity_id){1, 1};
+    h.config.remotes[0] = (struct tsendrivaty_remote){{1, 2}, 4096, segment, checksum, crc, 0, 0, 3};
+    h.config.count = 1;
+    memset(h.config.actions, TSENDRIVATY_CANCEL, 16);
+    h.config.eofsent = h.config.finished = 1;
+    tsendrivaty_new(&h, 1, 7);
+}
+
+static void put(uint8_t unacknowledged, size_t size) {
+    answer = tsendrivaty_put(&h, 1, 2, unacknowledged, 1, (const uint8_t *)"a", 1, (const uint8_t *)"b", 1, size);
+}
+
+static void step(uint8_t expired) {
+    answer = tsendrivaty_step(&h, file, h.transaction.size, expired, out, sizeof out);
+}
+
+static void directive(const uint8_t *body, size_t n) {
+    static uint8_t pdu[1024];
+    const uint8_t head[] = {0x28, (uint8_t)(n >> 8), (uint8_t)n, 0, 1, 7, 2};
+    memcpy(pdu, head, sizeof head);
+    memcpy(pdu + sizeof head, body, n);
+    answer = tsendrivaty_deliver(&h, pdu, sizeof head + n);
+}
+
+/* `count` requests of `length` bytes each, one byte further on each. */
+static uint8_t request[9 + 8 * 64];
+
+static void asked(uint32_t count, uint32_t length) {
+    request[0] = 8;
+    for (uint32_t k = 0; k < count; k++) {
+        const uint32_t pair[2] = {k, k + length};
+        for (int i = 0; i < 8; i++) request[9 + 8 * k + i] = (uint8_t)(pair[i / 4] >> 8 * (3 - i % 4));
+    }
+}
+
+static void nak(uint32_t count) {
+    directive(request, 9 + 8 * count);
+}
+
+/* ---- cases: what comes before the call, and the call */
+
+static void at_data(uint8_t crc, uint8_t checksum, uint64_t segment, size_t size, int steps) {
+    configured(crc, checksum, segment);
+    put(0, size);
+    while (steps--) step(0);
+}
+
+static const struct {
+    const char *name;
+    uint8_t crc, checksum;
+    uint64_t segment;
+    size_t size;
+    int steps;      /* before the call */
+    uint32_t asked; /* requests of a NAK before the call */
+    char call;      /* p put, s step, n deliver of a NAK, r reset, c cancel, m memcpy of a data PDU's bytes */
+    uint32_t naks;
+} CASES[] = {
+    {"data", 0, 15, 4096, SIZE, 3, 0, 's', 0},       {"data_crc", 1, 15, 4096, SIZE, 3, 0, 's', 0},  {"data_100", 0, 15, 100, SIZE, 3, 0, 's', 0},
+    {"data_1", 0, 15, 1, SIZE, 3, 0, 's', 0},        {"repair", 0, 15, 4096, SIZE, 3, 1, 's', 0},    {"metadata", 0, 15, 4096, SIZE, 0, 0, 's', 0},
+    {"nak_64", 0, 15, 4096, SIZE, 3, 0, 'n', 64},    {"nak_1", 0, 15, 4096, SIZE, 3, 0, 'n', 1},     {"put", 0, 15, 4096, SIZE, -1, 0, 'p', 0},
+    {"eof_null", 0, 15, 4096, 4000, 2, 0, 's', 0},   {"eof_modular", 0, 0, 4096, 4000, 2, 0, 's', 0}, {"eof_crc32c", 0, 2, 4096, 4000, 2, 0, 's', 0},
+    {"eof_crc32", 0, 3, 4096, 4000, 2, 0, 's', 0},   {"cancel", 0, 15, 4096, SIZE, 3, 0, 'c', 0},    {"reset", 0, 15, 4096, SIZE, 3, 0, 'r', 0},
+    {"refused", 0, 15, 4096, SIZE, 3, 0, 'x', 0},    {"copy", 0, 15, 4096, SIZE, 3, 0, 'm', 0},
+};
+#define COUNT (sizeof CASES / sizeof CASES[0])
+
+static void prepared(size_t k) {
+    asked(64, 8000);
+    if (CASES[k].steps < 0)
+        configured(CASES[k].crc, CASES[k].checksum, CASES[k].segment);
+    else
+        at_data(CASES[k].crc, CASES[k].checksum, CASES[k].segment, CASES[k].size, CASES[k].steps);
+    if (CASES[k].asked) nak(CASES[k].asked);
+}
+
+static size_t piece = 4085;
+
+__attribute__((noinline)) static void called(size_t k) {
+    switch (CASES[k].call) {
+    case 'p': put(0, CASES[k].size); break;
+    case 's': step(0); break;
+    case 'n': nak(CASES[k].naks); break;
+    case 'c': answer = !tsendrivaty_cancel(&h, 1, 1, 1, 7); break;
+    case 'r': answer = tsendrivaty_reset(&h); break;
+    case 'x': tsendrivaty_step(&h, file, 1, 0, out, sizeof out); break;
+    case 'm': memcpy(out, file, *(volatile size_t *)&piece); break;
+    }
+}
+
+/* ---- stack: a call is made on a painted stack of its own */
+
+static _Alignas(16) uint8_t stack[PAINT];
+
+static void deep(const char *name, void (*call)(void)) {
+    memset(stack, 0xA5, PAINT);
+    __asm__ volatile("movq %%rsp, %%r12\n\tmovq %0, %%rsp\n\tcall *%1\n\tmovq %%r12, %%rsp"
+                     :
+                     : "r"(stack + PAINT), "r"(call)
+                     : "r12", "rax", "rcx", "rdx", "rsi", "rdi", "r8", "r9", "r10", "r11", "memory", "cc", "xmm0", "xmm1", "xmm2", "xmm3", "xmm4", "xmm5", "xmm6",
+                       "xmm7", "xmm8", "xmm9", "xmm10", "xmm11", "xmm12", "xmm13", "xmm14", "xmm15");
+    int i = 0;
+    while (i < PAINT && stack[i] == 0xA5) i++;
+    printf("%s %d %u\n", name, PAINT - i, answer);
+}
+
+static void make(void) { answer = tsendrivaty_new(&h, 1, 7); }
+static void put_acknowledged(void) { put(0, 9000); }
+static void quiet_step(void) { step(0); }
+static void expired_step(void) { step(1); }
+static void nak_of_64(void) { nak(64); }
+static void nak_of_1(void) { nak(1); }
+static void ack_of_eof(void) { directive((const uint8_t[]){6, 0x40, 1}, 3); }
+static void finished(void) { directive((const uint8_t[]){5, 2}, 2); }
+static void cancel(void) { answer = !tsendrivaty_cancel(&h, 1, 1, 1, 7); }
+static void reset(void) { answer = tsendrivaty_reset(&h); }
+
+static void stacks(void) {
+    static const uint8_t kinds[4] = {0, 2, 3, 15};
+    deep("new", make);
+    for (int k = 0; k < 8; k++) {
+        configured(k % 2, kinds[k / 2], 4096);
+        deep("put", put_acknowledged);
+        deep("put", put_acknowledged); /* refused */
+        deep("step", quiet_step);
+        deep("step", quiet_step);
+        asked(64, 4000);
+        deep("deliver", nak_of_64);
+        deep("deliver", nak_of_1); /* refused */
+        deep("step", quiet_step);
+        for (int i = 0; i < 65; i++) step(0);
+        for (int i = 0; i < 4; i++) deep("step", expired_step); /* EOF, the same twice, a fault that cancels */
+        deep("deliver", ack_of_eof);
+        deep("deliver", finished);
+        deep("step", quiet_step);
+        deep("step", quiet_step);
+        configured(k % 2, kinds[k / 2], 4096);
+        put(1, 9000);
+        step(0);
+        step(0);
+        deep("cancel", cancel);
+        deep("step", quiet_step);
+        deep("reset", reset);
+    }
+}
+
+int main(int argc, char **argv) {
+    for (int i = 0; i < SIZE; i++) file[i] = (uint8_t)(i * 7);
+    if (argc == 2 && !strcmp(argv[1], "stack")) {
+        stacks();
+    } else if (argc == 2 && !strcmp(argv[1], "size")) {
+        printf("handler %lu\nconfiguration %lu\nreport %lu\nstate %lu\n", sizeof h, sizeof h.config, sizeof h.report, sizeof h - sizeof h.config - sizeof h.report);
+        printf("queue %lu\nnames %lu\n", sizeof h.queue, sizeof h.names);
+    } else if (argc == 3) {
+        for (size_t k = 0; k < COUNT; k++)
+            if (!strcmp(argv[1], CASES[k].name)) {
+                prepared(k);
+                if (argv[2][0] == '1') called(k);
+                return answer != 0;
+            }
+        return 2;
+    }
+    return 0;
+}
