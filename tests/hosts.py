@@ -62,8 +62,8 @@ def c_object(source, name, *words):
     """Compiles a C file; `words` are options as -DNAME."""
     os.makedirs(BUILD, exist_ok=True)
     out = os.path.join(BUILD, name + '.o')
-    start = [own_cc()] if own_cc() else [os.path.join(tools(), 'bin', 'clang'), '--target=' + TRIPLE, '-nostdinc']
-    run(start + ['-std=c11', '-Wall', '-Wextra', '-Werror', '-O2', '-fPIC', *words, '-c', source, '-o', out])
+    start = [own_cc()] if own_cc() else [os.path.join(tools(), 'bin', 'clang'), '--target=' + TRIPLE, '-nostdinc', '-Werror']
+    run(start + ['-std=c11', '-Wall', '-Wextra', '-O2', '-fPIC', *words, '-c', source, '-o', out])
     return out
 
 
@@ -86,12 +86,12 @@ class Rust:
     def __init__(self, words, env=None):
         self.words, self.env = words, dict(os.environ, **(env or {}))
 
-    def archive(self, source, name):
+    def archive(self, source, name, *words):
         """A Rust file with its own C `main`, and std with it, as an archive: any linker can then link it."""
         os.makedirs(BUILD, exist_ok=True)
         out = os.path.join(BUILD, 'lib%s.a' % name)
-        run(self.words + ['--edition', '2021', '--target', TRIPLE, '--crate-type', 'staticlib', '-C', 'panic=abort', '-O', '-D', 'warnings', source, '-o', out],
-            env=self.env)
+        options = ['--edition', '2021', '--target', TRIPLE, '--crate-type', 'staticlib', '-C', 'panic=abort', '-O']
+        run(self.words + options + [*words, source, '-o', out], env=self.env)
         return out
 
 
@@ -129,12 +129,12 @@ def fetch(folder, say):
         options = ['Dir::State=%s/apt/state' % folder, 'Dir::State::status=%s/apt/state/status' % folder, 'Dir::Cache=%s/apt/cache' % folder,
                    'APT::Architecture=' + here, 'APT::Architectures::=' + here, 'APT::Architectures::=amd64', 'Debug::NoLocking=1', 'APT::Sandbox::User=root']
         o = [w for option in options for w in ('-o', option)]
-        run(['apt-get'] + o + ['update'])
+        run(['apt-get'] + o + ['-o', 'APT::Update::Error-Mode=any', 'update'])
         run(['apt-get'] + o + ['download'] + packages(o, here), cwd=os.path.join(folder, 'debs'))
         for deb in sorted(os.listdir(os.path.join(folder, 'debs'))):
             run(['dpkg-deb', '-x', os.path.join(folder, 'debs', deb), folder])
     except Failed as e:
-        return "Debian's Rust for x86-64 can't be fetched: " + ' / '.join(str(e).strip().split('\n')[-2:])
+        return "Debian's Rust for x86-64 can't be fetched: " + str(e).strip().split('\n')[-1]
     for d in ('apt', 'debs', 'usr/share'):
         shutil.rmtree(os.path.join(folder, d), ignore_errors=True)
     open(os.path.join(folder, 'whole'), 'w').close()
