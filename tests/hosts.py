@@ -4,7 +4,7 @@ The archive is x86-64. On x86-64 hosts are built by the machine's own cc and rus
 and its emulator, and Rust through a rustc that has the x86-64 standard library: the machine's own if it has it, else Debian's, fetched by apt-get into
 target/x86-rust (nothing is installed, no right beyond writing there is needed).
 """
-import os, platform, re, shutil, subprocess
+import hashlib, os, platform, re, shutil, subprocess
 
 TESTS = os.path.dirname(os.path.abspath(__file__))
 ROOT = os.path.dirname(TESTS)
@@ -38,10 +38,30 @@ def tools():
     return os.path.join(kit(), 'on', platform.machine(), 'toolchain')
 
 
-def archive(name='seam'):
-    """Proves the crate and builds its archive."""
-    run(['rt', 'staticlib', name], cwd=ROOT)
-    return os.path.join(TARGET, 'staticlib', 'lib%s.a' % name)
+def archive(name='seam', say=print):
+    """Proves the crate and builds its archive; not again where no file of any crate, nor the kit, has changed since."""
+    out = os.path.join(TARGET, 'staticlib', 'lib%s.a' % name)
+    stamp, now = out + '.from', sources()
+    if not (os.path.exists(out) and os.path.exists(stamp) and open(stamp).read() == now):
+        say('proving and building the archive: rt staticlib %s (some minutes)' % name, flush=True)
+        run(['rt', 'staticlib', name], cwd=ROOT)
+        with open(stamp, 'w') as f:
+            f.write(now)
+    return out
+
+
+def sources():
+    """A sum over the kit's identity and every file that `rt staticlib` may read."""
+    sum = hashlib.sha256(run(['rt', 'version']).encode())
+    for folder, inner, files in os.walk(os.path.join(ROOT, 'crates')):
+        inner.sort()
+        for file in sorted(f for f in files if f.endswith(('.rt', '.antt'))):
+            path = os.path.join(folder, file)
+            with open(path, 'rb') as f:
+                sum.update(os.path.relpath(path, ROOT).encode() + hashlib.sha256(f.read()).digest())
+    with open(os.path.join(ROOT, 'crates.txt'), 'rb') as f:
+        sum.update(f.read())
+    return sum.hexdigest() + '\n'
 
 
 def emulator():

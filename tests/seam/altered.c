@@ -37,7 +37,7 @@ uint32_t tsendrivaty_step(H, SLICE, uint8_t expired, uint8_t *out, size_t room) 
     if (IS(2) && !r && h->report.length > 0) h->report.length--;
     if (IS(3) && !r) h->report.timer = 0;
     if (IS(4) && r) h->file.progress++;
-    if (IS(7) && !r && repairs && h->queue.count == repairs) {
+    if (IS(7) && !r && repairs && repairs <= 64 && h->queue.count == repairs) {
         for (size_t i = 1; i < repairs; i++) h->queue.places[i - 1] = h->queue.places[i];
         h->queue.count--;
     }

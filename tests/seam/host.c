@@ -364,7 +364,7 @@ int main(void) {
     cancels();
     wide();
     garbage(0, "every byte 255", 4);
-    garbage(1, "random", 1000);
-    garbage(2, "random, near a state", 3000);
+    garbage(1, "random", 200);
+    garbage(2, "random, near a state", 1000);
     return wrong != 0;
 }

@@ -444,7 +444,7 @@ pub extern "C" fn main(_: i32, _: *const *const u8) -> i32 {
     host.cancels();
     host.wide();
     host.wrong |= !garbage(Way::Ones, "every byte 255", 4);
-    host.wrong |= !garbage(Way::Random, "random", 1000);
-    host.wrong |= !garbage(Way::NearAState, "random, near a state", 3000);
+    host.wrong |= !garbage(Way::Random, "random", 200);
+    host.wrong |= !garbage(Way::NearAState, "random, near a state", 1000);
     host.wrong as i32
 }
