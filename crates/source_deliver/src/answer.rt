@@ -6,7 +6,7 @@ use rules::State;
 ghost use mathlib.Core.Path.{_≡_};
 ghost use Rattle.rules.specs.Deliver.{refused as refusedIs, accepted as acceptedIs};
 
-pub fn refused(s: State, why: Refusal) -> Done
+pub(crate) fn refused(s: State, why: Refusal) -> Done
     ensures { λ r. ⌜ r ≡ refusedIs s why ⌝ }
 {
     Done {
@@ -15,7 +15,7 @@ pub fn refused(s: State, why: Refusal) -> Done
     }
 }
 
-pub fn accepted(s: State) -> Done
+pub(crate) fn accepted(s: State) -> Done
     ensures { λ r. ⌜ r ≡ acceptedIs s ⌝ }
 {
     Done {

@@ -58,7 +58,7 @@ fn first_pair(n: usize, large: bool, start: usize) -> usize
     next_pair(n, large, start + 1)
 }
 
-pub fn handle_nak_pdu(s: State, bytes: &[u8], f: Frame, n: usize) -> Done
+pub(crate) fn handle_nak_pdu(s: State, bytes: &[u8], f: Frame, n: usize) -> Done
     ensures { λ r. ⌜ r ≡ nakOf s (requestsIn (now (bytes .entry)) f n) ⌝ }
 {
     let at = first_pair(bytes.len(), f.head.large, f.start);

@@ -4,9 +4,11 @@ use rules::Due;
 use rules::State;
 use rules::TransactionStep;
 ghost use mathlib.Core.Path.{_≡_};
+ghost use mathlib.Core.Bool.{true};
 ghost use Prim.Native.Nat.{_+_, _<_};
 ghost use lib.Dec.{leb};
-ghost use Rattle.rules.specs.Step.{actionFor, faultDue, ackExpired, checkExpired, dueAt, eofOwed, dueOf};
+ghost use Rattle.rules.specs.Step.{actionFor, faultDue, ackExpired, checkExpired, eofOwed, dueOf};
+ghost use Rattle.source_due.specs.Timer.{isLate, onExpiry, untimed};
 
 // The configured action of the condition; once cancelled it is abandon.
 fn action_for(s: State, condition: u8) -> u8
@@ -43,12 +45,9 @@ fn limit_reached(s: State) -> bool
 }
 
 // 6: positive ACK limit reached, or the same EOF again.
-fn ack_expired(s: State, expired: bool) -> Due
-    ensures { λ r. ⌜ r ≡ ackExpired s expired ⌝ }
+fn ack_expired(s: State) -> Due
+    ensures { λ r. ⌜ r ≡ ackExpired s true ⌝ }
 {
-    if !expired {
-        return Due::Nothing;
-    }
     if limit_reached(s) {
         return declare_fault(s, 1);
     }
@@ -56,29 +55,56 @@ fn ack_expired(s: State, expired: bool) -> Due
 }
 
 // 7: check limit reached.
-fn check_expired(s: State, expired: bool) -> Due
-    ensures { λ r. ⌜ r ≡ checkExpired s expired ⌝ }
+fn check_expired(s: State) -> Due
+    ensures { λ r. ⌜ r ≡ checkExpired s true ⌝ }
 {
     if !s.fixed.head.unacknowledged {
-        return Due::Nothing;
-    }
-    if !expired {
         return Due::Nothing;
     }
     declare_fault(s, 10)
 }
 
-// 3 to 9, by the step.
-fn due_at(step: TransactionStep, s: State, expired: bool) -> Due
-    ensures { λ r. ⌜ r ≡ dueAt step s expired ⌝ }
+// A timer runs in this step, and it has expired.
+fn is_late(step: TransactionStep, expired: bool) -> bool
+    ensures { λ r. ⌜ r ≡ isLate step expired ⌝ }
+{
+    match step {
+        TransactionStep::Idle => false,
+        TransactionStep::SendingMetadata => false,
+        TransactionStep::SendingFileData => false,
+        TransactionStep::SendingEof => false,
+        TransactionStep::WaitingForEofAck => expired,
+        TransactionStep::WaitingForFinished => expired,
+        TransactionStep::Closing => false,
+    }
+}
+
+// 6 and 7, by the step.
+fn on_expiry(step: TransactionStep, s: State) -> Due
+    ensures { λ r. ⌜ r ≡ onExpiry step s ⌝ }
+{
+    match step {
+        TransactionStep::Idle => Due::Nothing,
+        TransactionStep::SendingMetadata => Due::Nothing,
+        TransactionStep::SendingFileData => Due::Nothing,
+        TransactionStep::SendingEof => Due::Nothing,
+        TransactionStep::WaitingForEofAck => ack_expired(s),
+        TransactionStep::WaitingForFinished => check_expired(s),
+        TransactionStep::Closing => Due::Nothing,
+    }
+}
+
+// 3 to 5, 8 and 9, by the step.
+fn due_at(step: TransactionStep) -> Due
+    ensures { λ r. ⌜ r ≡ untimed step ⌝ }
 {
     match step {
         TransactionStep::Idle => Due::Nothing,
         TransactionStep::SendingMetadata => Due::Metadata,
         TransactionStep::SendingFileData => Due::Data,
         TransactionStep::SendingEof => Due::NoErrorEof,
-        TransactionStep::WaitingForEofAck => ack_expired(s, expired),
-        TransactionStep::WaitingForFinished => check_expired(s, expired),
+        TransactionStep::WaitingForEofAck => Due::Nothing,
+        TransactionStep::WaitingForFinished => Due::Nothing,
         TransactionStep::Closing => Due::Close,
     }
 }
@@ -93,16 +119,21 @@ fn eof_owed(s: State) -> bool
     s.marks.owed
 }
 
-// The queue comes before the step: while it holds a request, the expiry flag isn't read.
+// The queue comes before the timer: while it holds a request, an expiry is not answered.
 pub fn due_of(s: State, expired: bool) -> Due
     ensures { λ r. ⌜ r ≡ dueOf s expired ⌝ }
 {
     if eof_owed(s) {
         return Due::CancelEof;
     }
-    if s.queue.count > 0 {
+    let step = s.step;
+    let waiting = s.queue.count > 0;
+    let late = is_late(step, expired);
+    if waiting {
         return Due::Repair;
     }
-    let step = s.step;
-    due_at(step, s, expired)
+    if late {
+        return on_expiry(step, s);
+    }
+    due_at(step)
 }

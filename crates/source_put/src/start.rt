@@ -42,7 +42,7 @@ fn chosen(c: Choice, entry: bool) -> bool
 }
 
 // Both ids take the larger of the two widths.
-pub fn head_of(
+pub(crate) fn head_of(
     c: LocalEntityConfig,
     e: RemoteEntityConfig,
     q: PutRequest,
@@ -83,7 +83,7 @@ fn too_long(h: Head, e: RemoteEntityConfig, source: &[u8], destination: &[u8]) -
 }
 
 // Refusals 4 to 8.
-pub fn entry_answer(
+pub(crate) fn entry_answer(
     e: RemoteEntityConfig,
     actions: [u8; 16],
     h: Head,
@@ -111,7 +111,7 @@ pub fn entry_answer(
 }
 
 // What later calls need of the configuration.
-pub fn fixed_of(
+pub(crate) fn fixed_of(
     c: LocalEntityConfig,
     e: RemoteEntityConfig,
     q: PutRequest,
@@ -138,7 +138,7 @@ pub fn fixed_of(
 }
 
 // Progress, queue, condition and cancel mark cleared; the number moved on.
-pub fn started(n: TransactionSeqNum, f: Fixed, names: Names) -> State
+pub(crate) fn started(n: TransactionSeqNum, f: Fixed, names: Names) -> State
     requires { ⌜ goodWidth (n .0) ≡ true ⌝ }
     ensures { λ r. ⌜ r ≡ started n f names ⌝ }
 {

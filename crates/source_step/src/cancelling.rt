@@ -21,7 +21,7 @@ fn can_cancel(step: TransactionStep) -> bool
 }
 
 // Ids and numbers are compared by value, not by width.
-pub fn may_cancel(s: State, source: EntityId, number: TransactionSeqNum) -> bool
+pub(crate) fn may_cancel(s: State, source: EntityId, number: TransactionSeqNum) -> bool
     ensures { λ r. ⌜ r ≡ mayCancel s source number ⌝ }
 {
     let step = s.step;

@@ -5,24 +5,19 @@ use borrow.Author.Needs.{needs}
 use Rattle.source_due.proofs.ack_expired.Statement.{statement}
 use Rattle.source_due.proofs.ack_expired.Tie as tie
 
-returns : tie.Need-returns
-unfolding ackExpired
-returns c = search picks depth 8
-
 limit-reached-requires : tie.Need-limit-reached-requires
 limit-reached-requires c κs = search needs
 
 declare-fault-requires : tie.Need-declare-fault-requires
 declare-fault-requires c κs = search needs
 
+returns : tie.Need-returns
+unfolding ackExpired
+returns c = rw (c .declare-fault .ensures) (search (picks, told) depth 8)
+
 returns-2 : tie.Need-returns-2
 unfolding ackExpired
-returns-2 c = rw (c .declare-fault .ensures) (search (picks, told) depth 8)
-
-returns-3 : tie.Need-returns-3
-unfolding ackExpired
-returns-3 c = search (picks, told) depth 8
+returns-2 c = search (picks, told) depth 8
 
 pub ack-expired-spec : {M : Type 1} → statement M
-ack-expired-spec =
-    tie.close (tie.spec returns limit-reached-requires declare-fault-requires returns-2 returns-3)
+ack-expired-spec = tie.close (tie.spec limit-reached-requires declare-fault-requires returns returns-2)

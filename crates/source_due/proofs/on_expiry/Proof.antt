@@ -1,7 +1,7 @@
 -- One arm a step, each a clause of the definition. Assumes nothing.
 use borrow.Author.Needs.{needs}
-use Rattle.source_due.proofs.due_at.Statement.{statement}
-use Rattle.source_due.proofs.due_at.Tie as tie
+use Rattle.source_due.proofs.on_expiry.Statement.{statement}
+use Rattle.source_due.proofs.on_expiry.Tie as tie
 
 enum-told : tie.Need-enum-told
 enum-told c = search needs
@@ -51,8 +51,8 @@ returns-6 c = rw (c .check-expired .ensures, c .before .enum-told6 .given .1)
 returns-7 : tie.Need-returns-7
 returns-7 c = rw (c .enum-told7 .given .1)
 
-pub due-at-spec : {M : Type 1} → statement M
-due-at-spec =
+pub on-expiry-spec : {M : Type 1} → statement M
+on-expiry-spec =
     tie.close
     (tie.spec
     enum-told
