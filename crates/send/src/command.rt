@@ -4,23 +4,33 @@ use crate::files::Loaded;
 use crate::run;
 use crate::run::Output;
 use crate::run::Pass;
-use crate::tell;
-use crate::words;
-use crate::words::Taken;
-use crate::words::Words;
 use libc::STDOUT_FILENO;
 use pdu_read_header::field::part_of;
 use rules::Answer;
+use rules::Done;
 use rules::State;
+use send_say::tell;
+use send_words::Taken;
+use send_words::Words;
+use send_words::defaults;
+use send_words::list::is;
+use send_words::with_word;
 
 // ---- words
 
 fn complain(t: Taken, s: &[u8]) {
     match t {
         Taken::With(_) => {}
-        Taken::UnknownWord => tell::about(b"unknown word: ", s, b""),
-        Taken::BadValue => tell::about(b"bad value: ", s, b""),
+        Taken::UnknownWord => tell::about(b"send: unknown word: ", s, b"\n"),
+        Taken::BadValue => tell::about(b"send: bad value: ", s, b"\n"),
     }
+}
+
+// The words with argument i, whose bytes are s.
+fn taken(w: Words, s: &[u8], i: usize) -> Taken {
+    let t = with_word(w, s, i);
+    complain(t, s);
+    t
 }
 
 fn argument(w: Words, i: usize) -> Taken {
@@ -30,9 +40,7 @@ fn argument(w: Words, i: usize) -> Taken {
         tell::line(b"send: a word is longer than 4096 bytes\n");
         return Taken::UnknownWord;
     }
-    let t = words::with_word(w, &word[..n], i);
-    complain(t, &word[..n]);
-    t
+    taken(w, &word[..n], i)
 }
 
 // After a wrong word the others are not looked at.
@@ -46,7 +54,7 @@ fn then(t: Taken, i: usize) -> Taken {
 
 // Argument 0 is the program and 1 the file.
 fn arguments(n: usize) -> Taken {
-    let mut t = Taken::With(words::defaults());
+    let mut t = Taken::With(defaults());
     let mut i = 2;
     while i < n {
         t = then(t, i);
@@ -59,7 +67,7 @@ fn arguments(n: usize) -> Taken {
 pub fn helps() -> bool {
     let mut word = io::buffer();
     let n = os::arg(1, &mut word);
-    words::is(&word[..n], b"--help")
+    is(&word[..n], b"--help")
 }
 
 pub fn command(n: usize) {
@@ -78,7 +86,7 @@ fn with_words(w: Words) {
 }
 
 fn with_room(w: Words, file: &mut [u8; 1048576]) {
-    match files::load(1, 0, file, b": larger than 1048576 bytes") {
+    match files::load(1, 0, file, b": larger than 1048576 bytes\n") {
         Loaded::Bytes(n) => with_file(w, part_of(file, 0, n)),
         Loaded::Unreadable => {}
         Loaded::TooLarge => {}
@@ -90,7 +98,7 @@ fn with_file(w: Words, file: &[u8]) {
     if w.answers == 0 {
         return with_answers(w, file, part_of(&answers, 0, 0));
     }
-    match files::load(w.answers, 8, &mut answers, b": larger than 65536 bytes") {
+    match files::load(w.answers, 8, &mut answers, b": larger than 65536 bytes\n") {
         Loaded::Bytes(n) => with_answers(w, file, part_of(&answers, 0, n)),
         Loaded::Unreadable => {}
         Loaded::TooLarge => {}
@@ -103,7 +111,7 @@ fn with_answers(w: Words, file: &[u8], answers: &[u8]) {
         tell::line(b"send: the last answer is cut short; nothing was sent\n");
         return;
     }
-    with_names(w, file, answers, f.count);
+    with_frames(w, file, answers, f.count);
 }
 
 // ---- put
@@ -133,25 +141,38 @@ fn dest_of(w: Words) -> Value {
     Value { i: w.dest, skip: 5 }
 }
 
-fn with_names(w: Words, file: &[u8], answers: &[u8], count: u64) {
+fn asked(w: Words, source: &[u8], destination: &[u8], size: u64) -> Done {
+    source::put(
+        run::first(w),
+        run::config(w),
+        run::request(w),
+        source,
+        destination,
+        size,
+    )
+}
+
+fn put(w: Words, size: u64) -> Done {
     let a = source_of(w);
     let b = dest_of(w);
     let mut from = io::buffer();
     let n = os::arg(a.i, &mut from);
     let mut to = io::buffer();
     let m = os::arg(b.i, &mut to);
-    let d = source::put(
-        run::first(w),
-        run::config(w),
-        run::request(w),
+    asked(
+        w,
         part_of(&from[..n], a.skip, n),
         part_of(&to[..m], b.skip, m),
-        file.len() as u64,
-    );
+        size,
+    )
+}
+
+fn with_frames(w: Words, file: &[u8], answers: &[u8], count: u64) {
+    let d = put(w, file.len() as u64);
     let r = d.answer;
     let s = d.state;
     match r {
-        Answer::Refused(x) => tell::refused(b"put", x),
+        Answer::Refused(x) => tell::refused(b"send: put", 0, x),
         Answer::Accepted => with_state(w, s, file, answers, count),
     }
 }
@@ -160,24 +181,23 @@ fn with_names(w: Words, file: &[u8], answers: &[u8], count: u64) {
 
 fn with_state(w: Words, s: State, file: &[u8], answers: &[u8], count: u64) {
     if w.out == 0 {
-        let o = Output {
-            fd: STDOUT_FILENO,
-            form: w.form,
-            timed: w.timed,
-        };
-        return summary(run::to_the_end(s, file, answers, o), count);
+        return with_output(w, s, file, answers, count, STDOUT_FILENO);
     }
     let fd = files::open_out(w.out);
     if fd < 0 {
         return;
     }
+    with_output(w, s, file, answers, count, fd);
+    closed(libc::close(fd));
+}
+
+fn with_output(w: Words, s: State, file: &[u8], answers: &[u8], count: u64, fd: i32) {
     let o = Output {
         fd: fd,
         form: w.form,
         timed: w.timed,
     };
     summary(run::to_the_end(s, file, answers, o), count);
-    closed(libc::close(fd));
 }
 
 fn closed(status: i32) {
@@ -188,12 +208,10 @@ fn closed(status: i32) {
 
 fn left_over(count: u64, delivered: u64) {
     if delivered < count {
-        tell::numbers(
-            b"send: ",
+        tell::counts(
+            b"send: # of # answers were not used\n",
             count - delivered,
-            b" of ",
             count,
-            b" answers were not used",
         );
     }
 }

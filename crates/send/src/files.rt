@@ -1,6 +1,6 @@
 // Arguments and the files that they name.
-use crate::tell;
 use pdu_read_header::field::part_of;
+use send_say::tell;
 
 pub enum Loaded {
     Bytes(usize),
@@ -29,7 +29,7 @@ fn complain(l: Loaded, word: &[u8], limit: &[u8]) {
     match l {
         Loaded::Bytes(_) => {}
         Loaded::Unreadable => tell::failed(word),
-        Loaded::TooLarge => tell::about(b"", word, limit),
+        Loaded::TooLarge => tell::about(b"send: ", word, limit),
     }
 }
 

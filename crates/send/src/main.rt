@@ -2,18 +2,15 @@
 mod command;
 mod files;
 mod run;
-mod say;
-mod tell;
-mod words;
 
 fn main() {
     let n = os::arg_count();
     if n < 2 {
-        tell::usage();
+        send_say::tell::usage();
         return;
     }
     if command::helps() {
-        tell::usage();
+        send_say::tell::usage();
         return;
     }
     command::command(n);

@@ -1,10 +1,6 @@
 // One pass: put, then step after step until the handler is idle or waits for an answer that nobody gives. An answer is delivered after each
 // step that emits nothing; with a limit, and no answer left, such a step is made again with the timer expired.
 ghost use Prim.Native.Nat.{_<_};
-use crate::say;
-use crate::say::Sum;
-use crate::tell;
-use crate::words::Words;
 use pdu_read_header::field::part_of;
 use rules::Answer;
 use rules::Choice;
@@ -12,25 +8,30 @@ use rules::EntityId;
 use rules::Events;
 use rules::LocalEntityConfig;
 use rules::PutRequest;
+use rules::Refusal;
 use rules::RemoteEntityConfig;
 use rules::State;
+use rules::Stepped;
 use rules::TransactionSeqNum;
-use rules::TransactionStep;
+use send_say::pdu::Sum;
+use send_say::pdu::plus;
+use send_say::pdu::received;
+use send_say::pdu::sent;
+use send_say::pdu::sum_of;
+use send_say::tell;
+use send_say::tell::Tally;
+use send_text::code::answer;
+use send_text::text::hex_bytes;
+use send_text::text::hex_line;
+use send_text::text::text;
+use send_words::Words;
+use source_state::is_idle;
 
 // Where PDUs go and in which form (0 framed, 1 hex, 2 hex with its meaning), and whether the timer expires.
 pub struct Output {
     pub fd: i32,
     pub form: u8,
     pub timed: bool,
-}
-
-// What has left so far; the checksum is that of the last EOF.
-pub struct Tally {
-    pub pdus: u64,
-    pub bytes: u64,
-    pub repairs: u64,
-    pub eof: bool,
-    pub sum: u64,
 }
 
 // The handler, the answers' place and how many were delivered, the timer, whether to go on.
@@ -139,21 +140,19 @@ pub fn frames_in(s: &[u8]) -> Frames {
 
 fn framed(out: &mut [u8], pdu: &[u8]) -> usize {
     let n = pdu.len();
-    let p = say::text(out, 0, &[(n / 256 % 256) as u8, (n % 256) as u8]);
-    say::text(out, p, pdu)
+    let p = text(out, 0, &[(n / 256 % 256) as u8, (n % 256) as u8]);
+    text(out, p, pdu)
 }
 
 fn hexed(out: &mut [u8], pdu: &[u8]) -> usize {
-    let p = say::hex_bytes(out, 0, pdu);
-    say::text(out, p, b"\n")
+    let p = hex_bytes(out, 0, pdu);
+    text(out, p, b"\n")
 }
 
 fn told(out: &mut [u8], pdu: &[u8], repair: bool) -> usize {
-    let p = say::text(out, 0, b"-> ");
-    let q = say::hex_bytes(out, p, pdu);
-    let r = say::gap(out, q, 44);
-    let s = say::sent(out, r, pdu, repair);
-    say::text(out, s, b"\n")
+    let p = hex_line(out, b"-> ", pdu);
+    let q = sent(out, p, pdu, repair);
+    text(out, q, b"\n")
 }
 
 fn formed(out: &mut [u8], form: u8, pdu: &[u8], repair: bool) -> usize {
@@ -172,10 +171,10 @@ fn written(o: Output, pdu: &[u8], repair: bool) -> bool {
 
 fn counted(t: Tally, pdu: &[u8], repair: bool) -> Tally {
     let mut v = t;
-    v.pdus = say::plus(t.pdus, 1);
-    v.bytes = say::plus(t.bytes, pdu.len() as u64);
-    v.repairs = say::plus(t.repairs, basis::bit_of(repair) as u64);
-    match say::sum_of(pdu) {
+    v.pdus = plus(t.pdus, 1);
+    v.bytes = plus(t.bytes, pdu.len() as u64);
+    v.repairs = plus(t.repairs, basis::bit_of(repair) as u64);
+    match sum_of(pdu) {
         Sum::NoEof => v,
         Sum::Of(sum) => {
             v.eof = true;
@@ -188,8 +187,17 @@ fn counted(t: Tally, pdu: &[u8], repair: bool) -> Tally {
 // A sign of life after every 256 PDUs.
 fn progress(pdus: u64, done: u64, size: u64) {
     if pdus % 256 == 0 {
-        tell::numbers(b"send: ", done, b" of ", size, b" bytes");
+        tell::counts(b"send: # of # bytes\n", done, size);
     }
+}
+
+// The pass with a PDU more.
+fn with_pdu(t: Pass, s: State, more: Tally) -> Pass {
+    let mut v = t;
+    v.state = s;
+    v.expired = false;
+    v.tally = more;
+    v
 }
 
 fn emitted(t: Pass, s: State, e: Events, pdu: &[u8], repair: bool, o: Output) -> Pass {
@@ -198,29 +206,19 @@ fn emitted(t: Pass, s: State, e: Events, pdu: &[u8], repair: bool, o: Output) ->
         tell::events(e);
         let more = counted(tally, pdu, repair);
         progress(more.pdus, s.file.progress, s.fixed.size);
-        return Pass {
-            state: s,
-            at: t.at,
-            delivered: t.delivered,
-            expired: false,
-            going: true,
-            tally: more,
-        };
+        return with_pdu(t, s, more);
     }
     tell::cut_short(tally.pdus);
-    let before = t.state;
-    ended(t, before)
+    stopped(t)
 }
 
 // ---- what comes
 
 fn heard(out: &mut [u8], pdu: &[u8], a: Answer) -> usize {
-    let p = say::text(out, 0, b"<- ");
-    let q = say::hex_front(out, p, pdu);
-    let r = say::gap(out, q, 44);
-    let s = say::received(out, r, pdu);
-    let t = say::answer(out, s, a);
-    say::text(out, t, b"\n")
+    let p = hex_line(out, b"<- ", pdu);
+    let q = received(out, p, pdu);
+    let r = answer(out, q, a);
+    text(out, r, b"\n")
 }
 
 // With the meaning, what comes is shown too.
@@ -236,58 +234,57 @@ fn shown(o: Output, pdu: &[u8], a: Answer) -> bool {
 fn said(k: u64, a: Answer) {
     match a {
         Answer::Accepted => {}
-        Answer::Refused(r) => tell::passed_over(k, r),
+        Answer::Refused(r) => tell::refused(b"send: answer #", k, r),
     }
+}
+
+// The pass with an answer more.
+fn with_answer(t: Pass, s: State, at: usize, k: u64) -> Pass {
+    let mut v = t;
+    v.state = s;
+    v.at = at;
+    v.delivered = k;
+    v.expired = false;
+    v
 }
 
 fn answered(t: Pass, s: State, answers: &[u8], o: Output) -> Pass {
     let at = t.at;
-    let n = frame_length(answers, at);
-    let pdu = part_of(answers, on(at, 2), n);
+    let pdu = part_of(answers, on(at, 2), frame_length(answers, at));
     let d = source::deliver(s, pdu);
     let a = d.answer;
     let next = d.state;
-    let k = say::plus(t.delivered, 1);
+    let k = plus(t.delivered, 1);
     said(k, a);
-    let tally = t.tally;
     if shown(o, pdu, a) {
-        return Pass {
-            state: next,
-            at: next_frame(answers, at),
-            delivered: k,
-            expired: false,
-            going: true,
-            tally: tally,
-        };
+        return with_answer(t, next, next_frame(answers, at), k);
     }
-    tell::cut_short(tally.pdus);
+    tell::cut_short(t.tally.pdus);
     ended(t, next)
 }
 
 // ---- the loop
 
-fn is_idle(s: TransactionStep) -> bool {
-    match s {
-        TransactionStep::Idle => true,
-        TransactionStep::SendingMetadata => false,
-        TransactionStep::SendingFileData => false,
-        TransactionStep::SendingEof => false,
-        TransactionStep::WaitingForEofAck => false,
-        TransactionStep::WaitingForFinished => false,
-        TransactionStep::Closing => false,
-    }
+fn stopped(t: Pass) -> Pass {
+    let mut v = t;
+    v.going = false;
+    v
 }
 
 fn ended(t: Pass, s: State) -> Pass {
-    let tally = t.tally;
-    Pass {
-        state: s,
-        at: t.at,
-        delivered: t.delivered,
-        expired: t.expired,
-        going: false,
-        tally: tally,
-    }
+    let mut v = t;
+    v.state = s;
+    v.going = false;
+    v
+}
+
+// Goes on only with the timer.
+fn timed(t: Pass, s: State, yes: bool) -> Pass {
+    let mut v = t;
+    v.state = s;
+    v.expired = yes;
+    v.going = yes;
+    v
 }
 
 // After a step that emitted nothing.
@@ -302,39 +299,39 @@ fn quiet(t: Pass, s: State, answers: &[u8], o: Output) -> Pass {
     if t.expired {
         return ended(t, s);
     }
-    let tally = t.tally;
-    Pass {
-        state: s,
-        at: t.at,
-        delivered: t.delivered,
-        expired: o.timed,
-        going: o.timed,
-        tally: tally,
+    timed(t, s, o.timed)
+}
+
+fn accepted(t: Pass, d: Stepped, space: &[u8], answers: &[u8], o: Output) -> Pass {
+    let e = d.events;
+    let next = d.state;
+    if d.length == 0 {
+        tell::events(e);
+        return quiet(t, next, answers, o);
+    }
+    let repair = t.state.queue.count > 0;
+    emitted(t, next, e, part_of(space, 0, d.length), repair, o)
+}
+
+fn refused(t: Pass, s: State, r: Refusal) -> Pass {
+    tell::refused(b"send: step", 0, r);
+    ended(t, s)
+}
+
+fn after(t: Pass, d: Stepped, space: &[u8], answers: &[u8], o: Output) -> Pass {
+    let a = d.answer;
+    let s = d.state;
+    match a {
+        Answer::Refused(r) => refused(t, s, r),
+        Answer::Accepted => accepted(t, d, space, answers, o),
     }
 }
 
 fn stepped(t: Pass, file: &[u8], answers: &[u8], o: Output) -> Pass {
     let s = t.state;
-    let repair = s.queue.count > 0;
     let mut space = io::buffer();
     let d = source::step(s, file, t.expired, &mut space);
-    let a = d.answer;
-    let e = d.events;
-    let next = d.state;
-    let n = d.length;
-    match a {
-        Answer::Refused(r) => {
-            tell::refused(b"step", r);
-            ended(t, next)
-        }
-        Answer::Accepted => {
-            if n == 0 {
-                tell::events(e);
-                return quiet(t, next, answers, o);
-            }
-            emitted(t, next, e, part_of(&space, 0, n), repair, o)
-        }
-    }
+    after(t, d, &space, answers, o)
 }
 
 fn started(s: State) -> Pass {

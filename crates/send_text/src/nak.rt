@@ -1,0 +1,50 @@
+// The requests of a NAK.
+use crate::text::listed;
+use crate::text::numbers;
+use crate::text::on;
+use crate::text::text;
+use basis::lesser;
+use pdu_read::nak::request_at;
+use rules::SegmentRequest;
+use source_queue::nak::next_pair;
+use source_queue::queue::is_metadata;
+
+fn request(out: &mut [u8], at: usize, r: SegmentRequest) -> usize {
+    if is_metadata(r) {
+        return text(out, at, b"metadata");
+    }
+    numbers(out, at, b"#..#", r.start, r.end)
+}
+
+fn comma(out: &mut [u8], at: usize, k: usize) -> usize {
+    listed(out, at, b" ;, ;", lesser(k, 1))
+}
+
+// The n requests from a place on.
+fn requests(out: &mut [u8], at: usize, pdu: &[u8], large: bool, first: usize, n: usize) -> usize {
+    let mut p = at;
+    let mut q = first;
+    let mut k = 0;
+    while k < n {
+        p = comma(out, p, k);
+        p = request(out, p, request_at(pdu, large, q));
+        q = next_pair(pdu.len(), large, q);
+        k += 1;
+    }
+    p
+}
+
+fn more(out: &mut [u8], at: usize, yes: bool) -> usize {
+    if yes {
+        return text(out, at, b" and more");
+    }
+    at
+}
+
+// A NAK with n requests, of which it says the first eight. They stand behind the directive code and the scope, which is as wide as a request.
+pub fn nak(out: &mut [u8], at: usize, pdu: &[u8], start: usize, large: bool, n: usize) -> usize {
+    let first = next_pair(pdu.len(), large, on(start, 1));
+    let p = text(out, at, b"NAK for");
+    let q = requests(out, p, pdu, large, first, lesser(n, 8));
+    more(out, q, n > 8)
+}
