@@ -1,9 +1,9 @@
 // A PDU's meaning in plain words.
 use pdu_read::directive::read_body;
+use pdu_read::field::up_to;
 use pdu_read_header::field::byte_at;
 use pdu_read_header::field::part_of;
 use pdu_read_header::field::size_width;
-use pdu_read::field::up_to;
 use pdu_read_header::read_header;
 use rules::Body;
 use rules::Frame;

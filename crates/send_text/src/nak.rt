@@ -6,8 +6,8 @@ use crate::text::text;
 use basis::lesser;
 use pdu_read::nak::request_at;
 use rules::SegmentRequest;
-use source_queue::nak::next_pair;
-use source_queue::queue::is_metadata;
+use source_nak::next_pair;
+use source_queue::is_metadata;
 
 fn request(out: &mut [u8], at: usize, r: SegmentRequest) -> usize {
     if is_metadata(r) {

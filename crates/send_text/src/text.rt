@@ -1,6 +1,6 @@
 // Texts, numbers and bytes as they are read.
-use pdu_read_header::field::part_of;
 use pdu_read::field::up_to;
+use pdu_read_header::field::part_of;
 use send_words::list::nth;
 
 pub fn text(out: &mut [u8], at: usize, s: &[u8]) -> usize {

@@ -4,7 +4,6 @@ use rules::Eof;
 use rules::Sending;
 use rules::State;
 use rules::TransactionStep;
-use source_queue::queue;
 use source_sending::next_length;
 use source_state::no_eof;
 ghost use mathlib.Core.Path.{_≡_};
@@ -28,7 +27,7 @@ fn notice_of_cancellation(s: State, e: Eof) -> State
 fn after_repair(s: State) -> State
     ensures { λ r. ⌜ r ≡ withQueue s (served (s .fixed .segment) (s .queue)) ⌝ }
 {
-    let queue = queue::served(s.fixed.segment, s.queue);
+    let queue = source_queue::served(s.fixed.segment, s.queue);
     let mut t = s;
     t.queue = queue;
     t

@@ -10,7 +10,7 @@ use Rattle.rules.specs.Deliver.{requestsIn, asked}
 use Rattle.rules.specs.declared.Frame.{Frame}
 use Rattle.rules.specs.declared.Meaning.{Meaning}
 use Rattle.rules.specs.declared.Meaning.the-variants.{Finished, AckOfEof, Nak, KeepAlive}
-use Rattle.source_queue.proofs.Requests.{at-end}
+use Rattle.source_nak.proofs.Requests.{at-end}
 use Rattle.source_deliver.specs.Asked.{askedCount}
 
 -- a place that stops at the end asks for the same

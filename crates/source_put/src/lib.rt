@@ -10,7 +10,7 @@ use rules::State;
 use source_config::config::entry_of;
 use source_config::config::ids_fit;
 use source_config::config::is_found;
-use source_queue::names::names_of;
+use source_names::names_of;
 use start::entry_answer;
 use start::fixed_of;
 use start::head_of;

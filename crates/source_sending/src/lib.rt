@@ -5,7 +5,6 @@ use rules::Eof;
 use rules::SegmentRequest;
 use rules::Sending;
 use rules::State;
-use source_queue::queue;
 ghost use mathlib.Core.Path.{_≡_};
 ghost use Rattle.rules.specs.Step.{eofFor, cancelEof, repairOf, nextLength, closing, sendingOf};
 
@@ -31,10 +30,10 @@ fn cancel_eof(s: State, file: &[u8], condition: u8) -> Eof
 fn repair_of(segment: u64, q: SegmentRequest) -> Sending
     ensures { λ r. ⌜ r ≡ repairOf segment q ⌝ }
 {
-    if queue::is_metadata(q) {
+    if source_queue::is_metadata(q) {
         return Sending::Metadata;
     }
-    let n = queue::piece(segment, q);
+    let n = source_queue::piece(segment, q);
     Sending::FileData {
         offset: q.start,
         length: n,
@@ -49,7 +48,7 @@ pub fn next_length(s: State) -> u64
         start: s.file.progress,
         end: s.fixed.size,
     };
-    queue::piece(s.fixed.segment, rest)
+    source_queue::piece(s.fixed.segment, rest)
 }
 
 fn closing(s: State) -> Sending
@@ -66,7 +65,7 @@ pub fn sending_of(s: State, file: &[u8], d: Due) -> Sending
 {
     match d {
         Due::CancelEof => Sending::Eof(cancel_eof(s, file, s.marks.condition)),
-        Due::Repair => repair_of(s.fixed.segment, queue::oldest(s.queue)),
+        Due::Repair => repair_of(s.fixed.segment, source_queue::oldest(s.queue)),
         Due::Metadata => Sending::Metadata,
         Due::Data => Sending::FileData {
             offset: s.file.progress,

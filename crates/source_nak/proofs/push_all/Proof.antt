@@ -1,0 +1,60 @@
+-- The rest of the requests pushed behind what is there gives what all of them give.
+-- Assumes nothing.
+use mathlib.Core.Path.{_≡_, sym, _∙_}
+use Rattle.rules.specs.Reading.{requestsFrom}
+use Rattle.rules.specs.Queues.{pushAll}
+use Rattle.source_nak.proofs.Requests.{push-turn, push-end}
+use borrow.Author.Needs.{needs}
+use Rattle.source_nak.proofs.push_all.Statement.{statement}
+use Rattle.source_nak.proofs.push_all.Tie as tie
+
+abbrev Inv-loop : tie.InvT-loop
+Inv-loop bytes large at n u₀ i₀ k₀ u i k = pushAll u (requestsFrom k large bytes i) ≡ pushAll u₀ (requestsFrom n large bytes at)
+
+abbrev μ-loop : tie.MeasureT-loop
+μ-loop bytes large at n u₀ i₀ k₀ u i k = k
+
+loop-holds : tie.Need-loop-holds Inv-loop μ-loop
+loop-holds c = search needs
+
+request-from-requires : tie.Need-request-from-requires Inv-loop μ-loop
+request-from-requires c κs = search needs
+
+push-owed-requires : tie.Need-push-owed-requires Inv-loop μ-loop
+push-owed-requires c κs = search needs
+
+next-pair-requires : tie.Need-next-pair-requires Inv-loop μ-loop
+next-pair-requires c κs = search needs
+
+sub-k : tie.Need-sub-k Inv-loop μ-loop
+sub-k c = search needs
+
+loop-less : tie.Need-loop-less Inv-loop μ-loop
+loop-less c = search needs
+
+loop-again : tie.Need-loop-again Inv-loop μ-loop
+loop-again c = let t = c .before .before in
+    let l = t .before .before in
+    let a = l .before .before .args in
+    rw (c .next-pair .ensures, c .before .push-owed .ensures, t .request-from .ensures)
+    (push-turn (a .large) (a .bytes .now) (l .loop .u) (l .loop .k) (l .loop .i) (t .before .loop-test .taken) ∙ l .loop .inv)
+
+returns : tie.Need-returns Inv-loop μ-loop
+returns c = let l = c .before in
+    let a = l .before .before .args in
+    sym (push-end (a .large) (a .bytes .now) (l .loop .u) (l .loop .k) (l .loop .i) (c .loop-test .left)) ∙ l .loop .inv
+
+pub push-all-spec : {M : Type 1} → statement M
+push-all-spec =
+    tie.close
+    (tie.spec
+    Inv-loop
+    μ-loop
+    loop-holds
+    request-from-requires
+    push-owed-requires
+    next-pair-requires
+    sub-k
+    loop-less
+    loop-again
+    returns)
