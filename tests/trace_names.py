@@ -29,7 +29,7 @@ def main():
     for doc in ('TRACE.md', 'OPEN.md'):
         with open(os.path.join(ROOT, 'docs', doc), encoding='utf-8') as f:
             text = f.read()
-        names = sorted(set(re.findall(r'\b(%s)(/|::)(\w+)(?!\.|/)' % '|'.join(CRATES), text)))
+        names = sorted(set(re.findall(r'\b(%s)(/|::)(\w+)\b(?![./])' % '|'.join(CRATES), text)))
         for crate, mark, name in names:
             if mark == '/' and name in ('src', 'specs', 'proofs', 'stdin', 'stdout', 'data', 'must'):
                 continue
