@@ -1,2 +1,0 @@
-pub mod Seam
-pub mod Memory

@@ -1,0 +1,78 @@
+-- What follows for the lent memory. Proof: proofs/Laws.antt.
+-- Assumes nothing.
+use mathlib.Core.Path.{_≡_}
+use mathlib.Core.List.{List}
+use Prim.Native.Nat.{ℕ}
+use lib.ListN.{length}
+use Rattle.basis.specs.Pick.{flag}
+use Rattle.rules.specs.Refusals.{answerNo}
+use Rattle.rules.specs.Put.{putSpec}
+use Rattle.rules.specs.Deliver.{deliverSpec}
+use Rattle.rules.specs.Step.{stepSpec, stepBytes}
+use Rattle.rules.specs.Cancel.{cancelSpec, resetSpec, newSpec}
+use Rattle.seam_memory.specs.Memory.{flagOf, configOf, stateOf, reportOf, noReport, requestOf}
+use Rattle.seam_calls.specs.Seam.{newDone, putDone, deliverDone, stepDone, stepOut, cancelDone, resetDone}
+use Rattle.seam_memory.specs.declared.Handler.{Handler}
+
+-- ---- each call on the memory is the call on the state in it
+
+-- PROMISE memory-follows: the code is the answer's number, and the state in the memory after a call is the one that the call's definition makes of the
+-- state in the memory before; so what is proved of the definitions holds of the memory.
+pub record MemoryFollows : Type 0 where
+  pub new : (h : Handler) (width number : ℕ) → (newDone h width number .code ≡ 0) × (stateOf (newDone h width number .held) ≡ newSpec (width, number))
+  pub put : (h : Handler) (width entity unacknowledged closure : ℕ) (source destination : List ℕ) (size : ℕ)
+      → let d = putDone h width entity unacknowledged closure source destination size in
+      let r = putSpec (stateOf h) (configOf (h .config)) (requestOf width entity unacknowledged closure) source destination size in
+      (d .code ≡ answerNo (r .answer)) × (stateOf (d .held) ≡ r .state)
+  pub deliver : (h : Handler) (bytes : List ℕ)
+      → (deliverDone h bytes .code ≡ answerNo (deliverSpec (stateOf h) bytes .answer))
+      × (stateOf (deliverDone h bytes .held) ≡ deliverSpec (stateOf h) bytes .state)
+  pub step : (h : Handler) (file : List ℕ) (expired : ℕ) (out : List ℕ)
+      → let d = stepDone h file expired out in
+      let r = stepSpec (stateOf h) file (flagOf expired) (length out) in
+      (d .code ≡ answerNo (r .answer)) × (stateOf (d .held) ≡ r .state) × (stepOut h file expired out ≡ stepBytes (stateOf h) file (flagOf expired) out)
+  pub cancel : (h : Handler) (sourcewidth source numberwidth number : ℕ)
+      → let d = cancelDone h sourcewidth source numberwidth number in
+      let r = cancelSpec (stateOf h) (sourcewidth, source) (numberwidth, number) in
+      (d .code ≡ flag (r .yes)) × (stateOf (d .held) ≡ r .state)
+  pub reset : (h : Handler) → (resetDone h .code ≡ 0) × (stateOf (resetDone h .held) ≡ resetSpec (stateOf h))
+
+-- ---- a refusal
+
+-- PROMISE memory-untouched: a refused call leaves every number of the memory as it was, the report of an earlier step too; a refused step every byte of
+-- the out buffer.
+pub record MemoryUntouched : Type 0 where
+  pub put : (h : Handler) (width entity unacknowledged closure : ℕ) (source destination : List ℕ) (size : ℕ)
+      → let d = putDone h width entity unacknowledged closure source destination size in (¬ (d .code ≡ 0)) → d .held ≡ h
+  pub deliver : (h : Handler) (bytes : List ℕ) → (¬ (deliverDone h bytes .code ≡ 0)) → deliverDone h bytes .held ≡ h
+  pub step : (h : Handler) (file : List ℕ) (expired : ℕ) (out : List ℕ)
+      → let d = stepDone h file expired out in (¬ (d .code ≡ 0)) → (d .held ≡ h) × (stepOut h file expired out ≡ out)
+  pub cancel : (h : Handler) (sourcewidth source numberwidth number : ℕ)
+      → let d = cancelDone h sourcewidth source numberwidth number in d .code ≡ 0 → d .held ≡ h
+
+-- ---- the report
+
+-- PROMISE report-told: an accepted step leaves its report, and any other accepted call an empty one.
+pub record ReportTold : Type 0 where
+  pub new : (h : Handler) (width number : ℕ) → newDone h width number .held .report ≡ noReport
+  pub put : (h : Handler) (width entity unacknowledged closure : ℕ) (source destination : List ℕ) (size : ℕ)
+      → let d = putDone h width entity unacknowledged closure source destination size in d .code ≡ 0 → d .held .report ≡ noReport
+  pub deliver : (h : Handler) (bytes : List ℕ) → deliverDone h bytes .code ≡ 0 → deliverDone h bytes .held .report ≡ noReport
+  pub step : (h : Handler) (file : List ℕ) (expired : ℕ) (out : List ℕ)
+      → let d = stepDone h file expired out in
+      d .code ≡ 0 → d .held .report ≡ reportOf (stepSpec (stateOf h) file (flagOf expired) (length out))
+  pub cancel : (h : Handler) (sourcewidth source numberwidth number : ℕ)
+      → let d = cancelDone h sourcewidth source numberwidth number in d .code ≡ 1 → d .held .report ≡ noReport
+  pub reset : (h : Handler) → resetDone h .held .report ≡ noReport
+
+-- ---- the configuration
+
+-- PROMISE config-stays: no call changes it.
+pub record ConfigStays : Type 0 where
+  pub new : (h : Handler) (width number : ℕ) → newDone h width number .held .config ≡ h .config
+  pub put : (h : Handler) (width entity unacknowledged closure : ℕ) (source destination : List ℕ) (size : ℕ)
+      → putDone h width entity unacknowledged closure source destination size .held .config ≡ h .config
+  pub deliver : (h : Handler) (bytes : List ℕ) → deliverDone h bytes .held .config ≡ h .config
+  pub step : (h : Handler) (file : List ℕ) (expired : ℕ) (out : List ℕ) → stepDone h file expired out .held .config ≡ h .config
+  pub cancel : (h : Handler) (sourcewidth source numberwidth number : ℕ) → cancelDone h sourcewidth source numberwidth number .held .config ≡ h .config
+  pub reset : (h : Handler) → resetDone h .held .config ≡ h .config
