@@ -1,4 +1,4 @@
-//! Tsendrivaty from Rust: the six C functions of `rt staticlib seam` behind a safe `Handler`. `core` only, no dependencies, Rust 1.81 or later.
+//! Tsendrivaty from Rust: the six C functions of `rt staticlib seam` behind a safe `Handler`. `core` only, no dependencies, Rust 1.82 or later.
 //!
 //! Take it in with `mod tsendrivaty;` and link the archive: `-L native=target/staticlib -l static=seam`. docs/SEAM.md is the guide.
 //!
