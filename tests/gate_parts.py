@@ -9,9 +9,9 @@ less than the gate's time, because a level of the tree with an odd number of cra
 import re, sys
 
 PARTS = [
-    ('leaves: basis, utf8, checksum, and the edits of their definitions in rules', r'basis|utf8|checksum', r'utf8_|checksum_|numbers_'),
+    ('leaves: basis, fields, rules_leaves, utf8, checksum, and the edits of numbers in rules', r'basis|fields|rules_leaves|utf8|checksum', r'numbers_'),
     ('PDUs: the pdu crates, vectors, and the edits of the layouts in rules', r'pdu\w*|vectors', r'pdu_'),
-    ('definitions and promises: rules and its other edits', r'rules', r''),
+    ('definitions and promises: types, rules and its other edits', r'types|rules', r''),
     ('the handler: the source crates', r'source\w*', None),
     ('the seam', r'seam\w*', None),
     ('programs and what is under them', r'\w+', None),
@@ -23,7 +23,7 @@ def part(crate, label):
         if crate == 'rules':
             if labels is not None and label is not None and re.match(labels, label):
                 return i
-            if label is None and crates == 'rules':
+            if label is None and crates == r'types|rules':
                 return i
         elif re.fullmatch(crates, crate):
             return i

@@ -7,7 +7,7 @@ use native.Mathlib.Nat.{add-zero, not-suc-le-zero}
 use native.Mathlib.Omega.{arith}
 use lib.ListN.{length, getD, drop, length-drop}
 use lib.Seq.{drop-drop, getD-drop}
-use Rattle.rules.specs.Checksum.{word, more, modularFrom}
+use Rattle.rules_leaves.specs.Checksum.{word, more, modularFrom}
 
 first-word : (sum : ℕ) (t : List ℕ) → 0 < length t
     → modularFrom (more sum (word (getD t 0 0) (getD t 1 0) (getD t 2 0) (getD t 3 0))) (drop 4 t) ≡ modularFrom sum t

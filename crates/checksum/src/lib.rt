@@ -1,10 +1,10 @@
 // The checksums of filestore.rs over bytes that are lent, and the CRC-16 that closes a PDU: each equal to its definition in `rules`.
 // They are total: any type, any bytes, any number of bytes asked for.
-use rules::Checksum;
+use types::Checksum;
 ghost use mathlib.Core.Path.{_≡_};
 ghost use Prim.Native.Nat.{_+_, _<_};
 ghost use lib.ListN.{length, take, getD};
-ghost use Rattle.rules.specs.Checksum.{word, modular, reversed, crcBit, crcByte, crcFrom, crc32, checksumOf, sumOf, crc16Bit, crc16Byte, crc16};
+ghost use Rattle.rules_leaves.specs.Checksum.{word, modular, reversed, crcBit, crcByte, crcFrom, crc32, checksumOf, sumOf, crc16Bit, crc16Byte, crc16};
 
 // ---- type 0: the modular checksum
 

@@ -11,7 +11,7 @@ fn main() {
 }
 
 fn driven(input: &[u8], answers: &mut [u8]) -> usize {
-    let n = (basis::num_at(input, 0, 4) % 4294967296) as usize;
+    let n = (fields::num_at(input, 0, 4) % 4294967296) as usize;
     let file = part_of(input, 4, n);
     let calls = part_of(input, 4 + n, input.len());
     host::tsendrivaty_run(calls, file, answers) as usize

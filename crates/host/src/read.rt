@@ -1,11 +1,11 @@
 // The list of calls taken apart. Past its end everything is zero: `run` tests first that a record is whole.
 use pdu_read_header::field::byte_at;
-use rules::Choice;
-use rules::EntityId;
-use rules::LocalEntityConfig;
-use rules::PutRequest;
-use rules::RemoteEntityConfig;
-use rules::TransactionSeqNum;
+use types::Choice;
+use types::EntityId;
+use types::LocalEntityConfig;
+use types::PutRequest;
+use types::RemoteEntityConfig;
+use types::TransactionSeqNum;
 
 // A place n bytes further, both below 2^48; a place as far as that is past every end.
 pub fn on(at: usize, n: usize) -> usize {
@@ -28,7 +28,7 @@ pub fn whole(s: &[u8], at: usize, n: usize) -> bool {
 
 // A length in w bytes.
 pub fn length(s: &[u8], at: usize, w: usize) -> usize {
-    (basis::num_at(s, at, w) % 4294967296) as usize
+    (fields::num_at(s, at, w) % 4294967296) as usize
 }
 
 fn bit(b: u8, divisor: u8) -> bool {
@@ -40,11 +40,11 @@ fn bit(b: u8, divisor: u8) -> bool {
 
 // An id or a number: width, then eight bytes of value.
 pub fn entity(s: &[u8], at: usize) -> EntityId {
-    EntityId(byte_at(s, at), basis::num_at(s, on(at, 1), 8))
+    EntityId(byte_at(s, at), fields::num_at(s, on(at, 1), 8))
 }
 
 pub fn number(s: &[u8], at: usize) -> TransactionSeqNum {
-    TransactionSeqNum(byte_at(s, at), basis::num_at(s, on(at, 1), 8))
+    TransactionSeqNum(byte_at(s, at), fields::num_at(s, on(at, 1), 8))
 }
 
 // 28 bytes.
@@ -52,8 +52,8 @@ fn entry(s: &[u8], at: usize) -> RemoteEntityConfig {
     let flags = byte_at(s, on(at, 26));
     RemoteEntityConfig {
         id: entity(s, at),
-        maxpacket: basis::num_at(s, on(at, 9), 8),
-        maxsegment: basis::num_at(s, on(at, 17), 8),
+        maxpacket: fields::num_at(s, on(at, 9), 8),
+        maxsegment: fields::num_at(s, on(at, 17), 8),
         checksum: byte_at(s, on(at, 25)),
         crc: bit(flags, 1),
         unacknowledged: bit(flags, 2),

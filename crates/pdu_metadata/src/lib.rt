@@ -1,15 +1,15 @@
 // The metadata PDU written: closure and checksum type, size, the two names, each behind its length. The writer is total and fills the
 // buffer from its front, as those of `pdu` do.
-use basis::bit_of;
-use basis::put_be;
-use basis::put_bytes;
+use fields::bit_of;
+use fields::put_be;
+use fields::put_bytes;
 use pdu_read_header::field::size_width;
 use pdu_write_header::crc_length;
 use pdu_write_header::head_length;
 use pdu_write_header::put_crc;
 use pdu_write_header::put_head;
-use rules::Head;
-use rules::Written;
+use types::Head;
+use types::Written;
 ghost use mathlib.Core.Path.{_≡_};
 ghost use Prim.Native.Nat.{_+_, _≤_};
 ghost use lib.ListN.{length};

@@ -1,12 +1,12 @@
 // A body in its frame: which reader its directive code picks, and what the frame refuses.
-use crate::ack::ack_in;
 use crate::field::up_to;
-use crate::finished::finished_in;
-use crate::keep_alive::keep_alive_in;
-use crate::nak::nak_in;
+use pdu_read_bodies::ack::ack_in;
+use pdu_read_bodies::finished::finished_in;
+use pdu_read_bodies::keep_alive::keep_alive_in;
 use pdu_read_header::field::part_of;
-use rules::Body;
-use rules::Frame;
+use pdu_read_nak::nak_in;
+use types::Body;
+use types::Frame;
 ghost use mathlib.Core.Path.{_≡_};
 ghost use Prim.Native.Nat.{_-_};
 ghost use Rattle.basis.specs.Bytes.{part};

@@ -1,7 +1,6 @@
-// What bodies take: how far it is between two places, and a condition.
+// How far it is between two places.
 ghost use mathlib.Core.Path.{_≡_};
 ghost use Prim.Native.Nat.{_-_};
-ghost use Rattle.rules.specs.Reading.{reserved};
 
 // From a up to b; 0 if b lies before a.
 pub fn up_to(a: usize, b: usize) -> usize
@@ -11,14 +10,4 @@ pub fn up_to(a: usize, b: usize) -> usize
         return 0;
     }
     b - a
-}
-
-// "Conditions 12 and 13 are reserved"
-pub fn is_reserved(condition: u8) -> bool
-    ensures { λ r. ⌜ r ≡ reserved condition ⌝ }
-{
-    if condition == 12 {
-        return true;
-    }
-    condition == 13
 }

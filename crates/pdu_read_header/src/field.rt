@@ -1,5 +1,5 @@
 // What all readers take: a byte, a part or a number that may lie past the end; and the width of a size, which the writers take too.
-use basis::num_at;
+use fields::num_at;
 ghost use mathlib.Core.Path.{_≡_};
 ghost use Prim.Native.Nat.{_*_, _<_, _≤_, _^_};
 ghost use Rattle.basis.specs.Bytes.{byte, part, numAt};

@@ -13,10 +13,10 @@ use Rattle.basis.specs.Laid.{laid, inFront}
 use Rattle.basis.proofs.Laid.{laid-none, then, take-front, in-front, kept}
 use Rattle.rules.specs.Fields.{sizes}
 use Rattle.rules.specs.Numbers.{H, C}
-use Rattle.rules.specs.Checksum.{crc16}
+use Rattle.rules_leaves.specs.Checksum.{crc16}
 use Rattle.rules.specs.Layout.{Said, headFields, headBytes, layout, trailer, pduBytes, isFileData, bodyBytes, encode, pduLength, writtenOf}
-use Rattle.rules.specs.declared.Head.{Head}
-use Rattle.rules.specs.declared.Written.the-variants.{Short, Wrote}
+use Rattle.types.specs.declared.Head.{Head}
+use Rattle.types.specs.declared.Written.the-variants.{Short, Wrote}
 use Rattle.rules.proofs.Places.{length-wire}
 use Rattle.rules.proofs.Round.{length-encode}
 

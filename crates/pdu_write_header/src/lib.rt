@@ -1,9 +1,9 @@
 // What all PDUs that a sender writes share: the header in front of the body, and the CRC behind it. Both are total but for the room
 // that they ask for: whatever header is given, a number keeps as many of its lowest bytes as its field has.
-use basis::bit_of;
-use basis::put_be;
 use checksum::crc16;
-use rules::Head;
+use fields::bit_of;
+use fields::put_be;
+use types::Head;
 ghost use mathlib.Core.Path.{_≡_};
 ghost use mathlib.Core.Bool.{false};
 ghost use Prim.Native.Nat.{_+_, _-_, _<_, _≤_};

@@ -23,7 +23,7 @@ pub fn past(s: &[u8], at: usize, w: usize) -> usize {
 }
 
 pub fn length(s: &[u8], at: usize, w: usize) -> usize {
-    (basis::num_at(s, at, w) % 4294967296) as usize
+    (fields::num_at(s, at, w) % 4294967296) as usize
 }
 
 // The next byte of a coded list: behind a zero the count of zeros that it stands for, else itself. Answers the place behind what it stands for.

@@ -13,9 +13,9 @@ use Rattle.rules.specs.Tiles.{answers, weights}
 use Rattle.rules.specs.Runs.{Call, Event, made, after, seen, trace, Lends, BeforeEof, requests}
 use Rattle.rules.specs.Demand.{Transfer, onto}
 use Rattle.rules.specs.Companions.{BeginsAt, LiesBelow, Apart, ToldApart}
-use Rattle.rules.specs.declared.State.{State}
-use Rattle.rules.specs.declared.Sending.{Sending}
-use Rattle.rules.specs.declared.Sending.the-variants.{Nothing as NoPdu, Metadata as MetadataPdu, FileData, Eof as EofPdu, AckFinished}
+use Rattle.types.specs.declared.State.{State}
+use Rattle.types.specs.declared.Sending.{Sending}
+use Rattle.types.specs.declared.Sending.the-variants.{Nothing as NoPdu, Metadata as MetadataPdu, FileData, Eof as EofPdu, AckFinished}
 use Rattle.rules.proofs.Tiles.{length-answers, Within}
 use Rattle.rules.proofs.Emits.{bytesOf}
 use Rattle.rules.proofs.Hold.{Inv, owedBy, none-owed, Small, Onward, Does, DoesFrom, sent-le, Moves, call-moves}

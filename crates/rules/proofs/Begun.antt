@@ -20,20 +20,20 @@ use Rattle.rules.specs.Layout.{metadata, pduLength}
 use Rattle.rules.specs.PduLaws.{Fit}
 use Rattle.rules.specs.States.{isIdle}
 use Rattle.rules.specs.Queues.{pending}
-use Rattle.rules.specs.Utf8.{isUtf8}
+use Rattle.rules_leaves.specs.Utf8.{isUtf8}
 use Rattle.rules.specs.Put.{idsFit, isFound, entryOf, knownType, goodEntry, goodConfig, allKnown, goodLength, goodLengths, headOf, tooLong, padded, paddedLength, started, entryAnswer, putAnswer, putState, putSpec}
 use Rattle.rules.specs.Demand.{Transfer, transferOf}
-use Rattle.rules.specs.declared.TransactionSeqNum.{TransactionSeqNum}
-use Rattle.rules.specs.declared.Head.{Head}
-use Rattle.rules.specs.declared.RemoteEntityConfig.{RemoteEntityConfig}
-use Rattle.rules.specs.declared.LocalEntityConfig.{LocalEntityConfig}
-use Rattle.rules.specs.declared.PutRequest.{PutRequest}
-use Rattle.rules.specs.declared.State.{State}
-use Rattle.rules.specs.declared.TransactionStep.the-variants.{SendingMetadata}
-use Rattle.rules.specs.declared.Refusal.{Refusal}
-use Rattle.rules.specs.declared.Answer.{Answer}
-use Rattle.rules.specs.declared.Answer.the-variants.{Accepted, Refused}
-use Rattle.rules.proofs.Sums.{sum-lt}
+use Rattle.types.specs.declared.TransactionSeqNum.{TransactionSeqNum}
+use Rattle.types.specs.declared.Head.{Head}
+use Rattle.types.specs.declared.RemoteEntityConfig.{RemoteEntityConfig}
+use Rattle.types.specs.declared.LocalEntityConfig.{LocalEntityConfig}
+use Rattle.types.specs.declared.PutRequest.{PutRequest}
+use Rattle.types.specs.declared.State.{State}
+use Rattle.types.specs.declared.TransactionStep.the-variants.{SendingMetadata}
+use Rattle.types.specs.declared.Refusal.{Refusal}
+use Rattle.types.specs.declared.Answer.{Answer}
+use Rattle.types.specs.declared.Answer.the-variants.{Accepted, Refused}
+use Rattle.rules_leaves.proofs.Sums.{sum-lt}
 use Rattle.rules.proofs.Round.{size-fits}
 use Rattle.rules.proofs.Pending.{orderly-empty}
 use Rattle.rules.proofs.Outcomes.{passed, answer-by, state-by}

@@ -14,28 +14,28 @@ use Rattle.basis.specs.Pick.{pick}
 use Rattle.basis.specs.Bytes.{byte, numAt}
 use Rattle.basis.proofs.Pick.{cases}
 use Rattle.rules.specs.Numbers.{F}
-use Rattle.rules.specs.Checksum.{crc16}
+use Rattle.rules_leaves.specs.Checksum.{crc16}
 use Rattle.rules.specs.Reading.{endIn, headIn, crcAgrees, wellFramed, frameIn, framedIn, bodyIn, fileDataIn, toSenderIn, largeIn, reserved, finishedParams, finishedIn, ackIn, requestCount, nakIn, keepAliveIn, directiveIn, directed, bodyOf}
 use Rattle.rules.specs.Refusals.{answerNo}
 use Rattle.rules.specs.States.{isIdle}
 use Rattle.rules.specs.Queues.{invalid, anyInvalid, owing, free}
 use Rattle.rules.specs.Deliver.{stepNo, verdictOf, sameTransaction, takesNak, nakOf, requestsIn, byVerdict, refused, heard, byBody, byFrame, deliverSpec}
 use Rattle.rules.specs.Exactly.{Rule, _when_, NoFrame, Reserved, BadFinished, BadAck, BadNak, Unread, BadBody, CantBody, NoNak, Unexpected, Differs, OneInvalid, pairsIn, deliverRules, DeliverExactly}
-use Rattle.rules.specs.declared.Head.{Head}
-use Rattle.rules.specs.declared.Frame.{Frame}
-use Rattle.rules.specs.declared.Framed.the-variants.{Malformed as NoFrame′, Whole}
-use Rattle.rules.specs.declared.Body.{Body}
-use Rattle.rules.specs.declared.Body.the-variants.{Malformed, CantProcess, Means}
-use Rattle.rules.specs.declared.Meaning.{Meaning}
-use Rattle.rules.specs.declared.Meaning.the-variants.{Finished, AckOfEof, Nak, KeepAlive}
-use Rattle.rules.specs.declared.SegmentRequest.{SegmentRequest}
-use Rattle.rules.specs.declared.FinishedParams.{FinishedParams}
-use Rattle.rules.specs.declared.State.{State}
-use Rattle.rules.specs.declared.TransactionStep.the-variants.{Idle, SendingMetadata, WaitingForEofAck, WaitingForFinished, Closing}
-use Rattle.rules.specs.declared.Verdict.{Verdict}
-use Rattle.rules.specs.declared.Verdict.the-variants.{Move, Refuse, NoEffect}
-use Rattle.rules.specs.declared.Refusal.the-variants.{OtherTransaction}
-use Rattle.rules.specs.declared.Done.{Done}
+use Rattle.types.specs.declared.Head.{Head}
+use Rattle.types.specs.declared.Frame.{Frame}
+use Rattle.types.specs.declared.Framed.the-variants.{Malformed as NoFrame′, Whole}
+use Rattle.types.specs.declared.Body.{Body}
+use Rattle.types.specs.declared.Body.the-variants.{Malformed, CantProcess, Means}
+use Rattle.types.specs.declared.Meaning.{Meaning}
+use Rattle.types.specs.declared.Meaning.the-variants.{Finished, AckOfEof, Nak, KeepAlive}
+use Rattle.types.specs.declared.SegmentRequest.{SegmentRequest}
+use Rattle.types.specs.declared.FinishedParams.{FinishedParams}
+use Rattle.types.specs.declared.State.{State}
+use Rattle.types.specs.declared.TransactionStep.the-variants.{Idle, SendingMetadata, WaitingForEofAck, WaitingForFinished, Closing}
+use Rattle.types.specs.declared.Verdict.{Verdict}
+use Rattle.types.specs.declared.Verdict.the-variants.{Move, Refuse, NoEffect}
+use Rattle.types.specs.declared.Refusal.the-variants.{OtherTransaction}
+use Rattle.types.specs.declared.Done.{Done}
 use Rattle.rules.proofs.Heard.{tlvs-exactly}
 use Rattle.rules.proofs.ExactBody.{reserved-exactly}
 use Rattle.rules.proofs.Tells.{Tells, Fails, tests, tells-eqb, tells-ltb, fails-not, fails-map, tells-either, iff-tells, tells-idle, tells-step}

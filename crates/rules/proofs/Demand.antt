@@ -16,12 +16,12 @@ use Rattle.rules.specs.Put.{putSpec}
 use Rattle.rules.specs.Tiles.{tiles, answers, weights}
 use Rattle.rules.specs.Runs.{Call, Event, turned, began, took, made, ended, after, seen, trace, behind, Lends, steps, isEof, BeforeEof, NoPut, requests, owed, R, firstPass, repairs}
 use Rattle.rules.specs.Demand.{Transfer, meant, planned, lastly, eofStep, SoFar, AtEof, AtStep, ThirdDemand}
-use Rattle.rules.specs.declared.SegmentRequest.{SegmentRequest}
-use Rattle.rules.specs.declared.State.{State}
-use Rattle.rules.specs.declared.TransactionStep.{TransactionStep}
-use Rattle.rules.specs.declared.TransactionStep.the-variants.{Idle, SendingMetadata, SendingFileData, SendingEof, WaitingForEofAck, WaitingForFinished, Closing}
-use Rattle.rules.specs.declared.Sending.{Sending}
-use Rattle.rules.specs.declared.Sending.the-variants.{Metadata as MetadataPdu}
+use Rattle.types.specs.declared.SegmentRequest.{SegmentRequest}
+use Rattle.types.specs.declared.State.{State}
+use Rattle.types.specs.declared.TransactionStep.{TransactionStep}
+use Rattle.types.specs.declared.TransactionStep.the-variants.{Idle, SendingMetadata, SendingFileData, SendingEof, WaitingForEofAck, WaitingForFinished, Closing}
+use Rattle.types.specs.declared.Sending.{Sending}
+use Rattle.types.specs.declared.Sending.the-variants.{Metadata as MetadataPdu}
 use Rattle.rules.proofs.Tiles.{length-tiles, length-answers, Within, within-append, tiles-within, sizes, sizes-tiles}
 use Rattle.rules.proofs.Emits.{bytesOf}
 use Rattle.rules.proofs.Hold.{plan, At, Inv, planOf, owedBy, none-owed, Does, DoesFrom, Moves, call-moves}

@@ -13,15 +13,15 @@ use Rattle.rules.specs.States.{idle, sourceName, destinationName}
 use Rattle.rules.specs.Queues.{isMetadata, oldest}
 use Rattle.rules.specs.Step.{eofOwed, dueOf, repairOf, closing, metadataOf, sendingOf, bytesFor, bytesDue}
 use Rattle.rules.specs.Good.{GoodName, Under, At, DueFits}
-use Rattle.rules.specs.declared.TransactionSeqNum.{TransactionSeqNum}
-use Rattle.rules.specs.declared.Head.{Head}
-use Rattle.rules.specs.declared.State.{State}
-use Rattle.rules.specs.declared.TransactionStep.{TransactionStep}
-use Rattle.rules.specs.declared.TransactionStep.the-variants.{Idle, SendingMetadata, SendingFileData, SendingEof, WaitingForEofAck, WaitingForFinished, Closing}
-use Rattle.rules.specs.declared.Due.{Due}
-use Rattle.rules.specs.declared.Due.the-variants.{CancelEof, Repair, Metadata, Data, NoErrorEof, EofAgain, FaultCancel, FaultIgnore, FaultAbandon, Close, Nothing}
-use Rattle.rules.specs.declared.Sending.{Sending}
-use Rattle.rules.specs.declared.Sending.the-variants.{Nothing as NoPdu, Metadata as MetadataPdu, FileData, Eof as EofPdu, AckFinished}
+use Rattle.types.specs.declared.TransactionSeqNum.{TransactionSeqNum}
+use Rattle.types.specs.declared.Head.{Head}
+use Rattle.types.specs.declared.State.{State}
+use Rattle.types.specs.declared.TransactionStep.{TransactionStep}
+use Rattle.types.specs.declared.TransactionStep.the-variants.{Idle, SendingMetadata, SendingFileData, SendingEof, WaitingForEofAck, WaitingForFinished, Closing}
+use Rattle.types.specs.declared.Due.{Due}
+use Rattle.types.specs.declared.Due.the-variants.{CancelEof, Repair, Metadata, Data, NoErrorEof, EofAgain, FaultCancel, FaultIgnore, FaultAbandon, Close, Nothing}
+use Rattle.types.specs.declared.Sending.{Sending}
+use Rattle.types.specs.declared.Sending.the-variants.{Nothing as NoPdu, Metadata as MetadataPdu, FileData, Eof as EofPdu, AckFinished}
 use Rattle.rules.proofs.Round.{length-encode}
 
 -- a data PDU carries at most L bytes

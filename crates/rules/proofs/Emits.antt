@@ -18,14 +18,14 @@ use Rattle.rules.specs.States.{isIdle, sourceName, destinationName}
 use Rattle.rules.specs.Step.{dueOf, sendingOf, closureBit, bytesFor, afterOf, eventsOf, changed, refusedStep, bytesDue, made as madeStep, stepSpec, stepBytes}
 use Rattle.rules.specs.Runs.{step, Event, turned, made, after, unless, pduIn, seen, LendsIn}
 use Rattle.rules.specs.Demand.{Transfer, saidOf}
-use Rattle.rules.specs.declared.Head.{Head}
-use Rattle.rules.specs.declared.Fixed.{Fixed}
-use Rattle.rules.specs.declared.Names.{Names}
-use Rattle.rules.specs.declared.State.{State}
-use Rattle.rules.specs.declared.Sending.{Sending}
-use Rattle.rules.specs.declared.Sending.the-variants.{Nothing as NoPdu, Metadata as MetadataPdu, FileData, Eof as EofPdu, AckFinished}
-use Rattle.rules.specs.declared.Refusal.the-variants.{FileChanged, OutTooSmall}
-use Rattle.rules.specs.declared.Answer.the-variants.{Accepted}
+use Rattle.types.specs.declared.Head.{Head}
+use Rattle.types.specs.declared.Fixed.{Fixed}
+use Rattle.types.specs.declared.Names.{Names}
+use Rattle.types.specs.declared.State.{State}
+use Rattle.types.specs.declared.Sending.{Sending}
+use Rattle.types.specs.declared.Sending.the-variants.{Nothing as NoPdu, Metadata as MetadataPdu, FileData, Eof as EofPdu, AckFinished}
+use Rattle.types.specs.declared.Refusal.the-variants.{FileChanged, OutTooSmall}
+use Rattle.types.specs.declared.Answer.the-variants.{Accepted}
 use Rattle.rules.proofs.Round.{length-encode}
 
 -- ---- the bytes of a transfer's PDUs, and a state that sends them

@@ -6,9 +6,9 @@ use mathlib.Core.List.{List, []}
 use Rattle.basis.specs.Pick.{pick}
 use Rattle.rules.specs.Step.{idOf, unreported, finishedIf, ackTimer, eofTimer, eofFinished}
 use Rattle.rules.specs.Events.{Told, finished, ifSet, ifFinished, listed, sent, EventCases}
-use Rattle.rules.specs.declared.TransactionId.{TransactionId}
-use Rattle.rules.specs.declared.FinishedEvent.the-variants.{NotFinished, Finished}
-use Rattle.rules.specs.declared.FinishedParams.{FinishedParams}
+use Rattle.types.specs.declared.TransactionId.{TransactionId}
+use Rattle.types.specs.declared.FinishedEvent.the-variants.{NotFinished, Finished}
+use Rattle.types.specs.declared.FinishedParams.{FinishedParams}
 
 -- a finished event by the flag
 by-flag : (b : Bool) (id : TransactionId) (p : FinishedParams) → ifFinished id (pick b (Finished p) NotFinished) [] ≡ ifSet b (finished id p) []

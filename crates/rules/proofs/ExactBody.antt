@@ -20,10 +20,10 @@ use Rattle.rules.specs.Numbers.{F}
 use Rattle.rules.specs.Layout.{ackFinished, finished, ackEof, nak, keepAlive, layout, layoutHeard, tlvFields, requestFields}
 use Rattle.rules.specs.Reading.{reserved, areTlvs, finishedParams, finishedIn, ackIn, requestCount, nakIn, keepAliveIn, directiveIn}
 use Rattle.rules.specs.PduLaws.{GoodTlvs, RequestsFit, Tlvs, end, tlv, cleared, ByLayout, heard, ofFinished, unread, BodyExactly, ReservedExactly}
-use Rattle.rules.specs.declared.SegmentRequest.{SegmentRequest}
-use Rattle.rules.specs.declared.Meaning.the-variants.{Finished, AckOfEof, Nak, KeepAlive}
-use Rattle.rules.specs.declared.Body.{Body}
-use Rattle.rules.specs.declared.Body.the-variants.{Malformed, CantProcess, Means}
+use Rattle.types.specs.declared.SegmentRequest.{SegmentRequest}
+use Rattle.types.specs.declared.Meaning.the-variants.{Finished, AckOfEof, Nak, KeepAlive}
+use Rattle.types.specs.declared.Body.{Body}
+use Rattle.types.specs.declared.Body.the-variants.{Malformed, CantProcess, Means}
 use Rattle.rules.proofs.Places.{At, at-start, past, byte-at, whole-length}
 use Rattle.rules.proofs.Heard.{tlvs-exactly, one-byte, heard-body}
 

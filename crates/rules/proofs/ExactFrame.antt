@@ -14,14 +14,14 @@ use Rattle.basis.specs.Bytes.{be, num, part, byte, numAt, Bytes}
 use Rattle.basis.proofs.Pick.{cases}
 use Rattle.rules.specs.Fields.{Field, nat, raw, wire}
 use Rattle.rules.specs.Numbers.{goodWidth, H, C}
-use Rattle.rules.specs.Checksum.{crc16}
+use Rattle.rules_leaves.specs.Checksum.{crc16}
 use Rattle.rules.specs.Layout.{byte0, byte3, headFields, headBytes, trailer}
 use Rattle.rules.specs.Reading.{bitIn, versionIn, crcIn, lengthIn, idWidthIn, seqWidthIn, endIn, crcAgrees, wellFramed, frameIn, framedIn, bodyIn}
 use Rattle.rules.specs.PduLaws.{Fit, clearedHead, IsPdu, FrameExactly}
-use Rattle.rules.specs.declared.Head.{Head}
-use Rattle.rules.specs.declared.Frame.{Frame}
-use Rattle.rules.specs.declared.Framed.{Framed}
-use Rattle.rules.specs.declared.Framed.the-variants.{Malformed, Whole}
+use Rattle.types.specs.declared.Head.{Head}
+use Rattle.types.specs.declared.Frame.{Frame}
+use Rattle.types.specs.declared.Framed.{Framed}
+use Rattle.types.specs.declared.Framed.the-variants.{Malformed, Whole}
 use Rattle.rules.proofs.Places.{wire-append}
 use Rattle.rules.proofs.Round.{headWith, Frames, good-range, last-two, filedata-read, tosender-read, head-read, h-read, body-end-read, body-read, well-framed-read}
 use Rattle.rules.proofs.ExactBody.{bytes-drop, number}

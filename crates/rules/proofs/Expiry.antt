@@ -14,12 +14,12 @@ use Rattle.basis.proofs.Laid.{taken}
 use Rattle.rules.specs.Step.{actionFor, faultDue, ackExpired, checkExpired, dueAt, eofOwed, dueOf, eventsOf, changed, made as madeStep, stepSpec, stepBytes}
 use Rattle.rules.specs.Runs.{step, Event, made, after, pduIn, seen, trace, behind}
 use Rattle.rules.specs.Expiry.{Waits, ExpiryDue, keptPdu, recounted, repeatsLeft, expiries, ExpiryCounted, withLimit, Limit0ActsAs1}
-use Rattle.rules.specs.declared.State.{State}
-use Rattle.rules.specs.declared.Stepped.{Stepped}
-use Rattle.rules.specs.declared.TransactionStep.{TransactionStep}
-use Rattle.rules.specs.declared.TransactionStep.the-variants.{Idle, SendingMetadata, SendingFileData, SendingEof, WaitingForEofAck, WaitingForFinished, Closing}
-use Rattle.rules.specs.declared.Due.the-variants.{EofAgain}
-use Rattle.rules.specs.declared.Answer.the-variants.{Accepted}
+use Rattle.types.specs.declared.State.{State}
+use Rattle.types.specs.declared.Stepped.{Stepped}
+use Rattle.types.specs.declared.TransactionStep.{TransactionStep}
+use Rattle.types.specs.declared.TransactionStep.the-variants.{Idle, SendingMetadata, SendingFileData, SendingEof, WaitingForEofAck, WaitingForFinished, Closing}
+use Rattle.types.specs.declared.Due.the-variants.{EofAgain}
+use Rattle.types.specs.declared.Answer.the-variants.{Accepted}
 use Rattle.rules.proofs.Emits.{encode-pos}
 
 -- ---- what is due

@@ -17,22 +17,22 @@ use Rattle.rules.specs.States.{isIdle, toStep, withQueue, settled}
 use Rattle.rules.specs.Queues.{anyInvalid, owing, free, pushAll}
 use Rattle.rules.specs.Deliver.{stepNo, verdictOf, sameTransaction, takesNak, nakOf, requestsIn, finishedOf, byVerdict, heard, byBody, byFrame, deliverSpec}
 use Rattle.rules.specs.Good.{At, Good}
-use Rattle.rules.specs.declared.SegmentRequest.{SegmentRequest}
-use Rattle.rules.specs.declared.FinishedParams.{FinishedParams}
-use Rattle.rules.specs.declared.Queue.{Queue}
-use Rattle.rules.specs.declared.Frame.{Frame}
-use Rattle.rules.specs.declared.Framed.{Framed}
-use Rattle.rules.specs.declared.Framed.the-variants.{Malformed as NoFrame, Whole}
-use Rattle.rules.specs.declared.Body.{Body}
-use Rattle.rules.specs.declared.Body.the-variants.{Malformed, CantProcess, Means}
-use Rattle.rules.specs.declared.Meaning.{Meaning}
-use Rattle.rules.specs.declared.Meaning.the-variants.{Finished, AckOfEof, Nak, KeepAlive}
-use Rattle.rules.specs.declared.Verdict.{Verdict}
-use Rattle.rules.specs.declared.Verdict.the-variants.{Enqueue, Move, Refuse, NoEffect}
-use Rattle.rules.specs.declared.State.{State}
-use Rattle.rules.specs.declared.TransactionStep.{TransactionStep}
-use Rattle.rules.specs.declared.TransactionStep.the-variants.{Idle, SendingMetadata, SendingFileData, SendingEof, WaitingForEofAck, WaitingForFinished, Closing}
-use Rattle.rules.specs.declared.Done.{Done}
+use Rattle.types.specs.declared.SegmentRequest.{SegmentRequest}
+use Rattle.types.specs.declared.FinishedParams.{FinishedParams}
+use Rattle.types.specs.declared.Queue.{Queue}
+use Rattle.types.specs.declared.Frame.{Frame}
+use Rattle.types.specs.declared.Framed.{Framed}
+use Rattle.types.specs.declared.Framed.the-variants.{Malformed as NoFrame, Whole}
+use Rattle.types.specs.declared.Body.{Body}
+use Rattle.types.specs.declared.Body.the-variants.{Malformed, CantProcess, Means}
+use Rattle.types.specs.declared.Meaning.{Meaning}
+use Rattle.types.specs.declared.Meaning.the-variants.{Finished, AckOfEof, Nak, KeepAlive}
+use Rattle.types.specs.declared.Verdict.{Verdict}
+use Rattle.types.specs.declared.Verdict.the-variants.{Enqueue, Move, Refuse, NoEffect}
+use Rattle.types.specs.declared.State.{State}
+use Rattle.types.specs.declared.TransactionStep.{TransactionStep}
+use Rattle.types.specs.declared.TransactionStep.the-variants.{Idle, SendingMetadata, SendingFileData, SendingEof, WaitingForEofAck, WaitingForFinished, Closing}
+use Rattle.types.specs.declared.Done.{Done}
 use Rattle.rules.proofs.Tells.{but, tells-step}
 use Rattle.rules.proofs.Table.{verdict-nak, verdict-ack, verdict-finished, verdict-keep}
 use Rattle.rules.proofs.GoodQueue.{good-empty, all-good}

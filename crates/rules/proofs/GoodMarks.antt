@@ -7,8 +7,8 @@ use Prim.Native.Nat.{ℕ, _<_}
 use native.Mathlib.Omega.{arith}
 use Rattle.rules.specs.States.{noMarks, counted, marked, settled, told}
 use Rattle.rules.specs.Good.{GoodMarks}
-use Rattle.rules.specs.declared.FinishedParams.{FinishedParams}
-use Rattle.rules.specs.declared.Marks.{Marks}
+use Rattle.types.specs.declared.FinishedParams.{FinishedParams}
+use Rattle.types.specs.declared.Marks.{Marks}
 
 pub good-noMarks : GoodMarks noMarks
 good-noMarks =

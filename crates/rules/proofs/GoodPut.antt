@@ -10,25 +10,25 @@ use lib.Dec.{eqb, ltb}
 use lib.ListN.{length, take, replicate, length-append, length-replicate}
 use lib.Seq.{take-append-seam, drop-append-seam}
 use Rattle.basis.specs.Pick.{pick}
-use Rattle.rules.specs.Utf8.{isUtf8}
+use Rattle.rules_leaves.specs.Utf8.{isUtf8}
 use Rattle.rules.specs.Layout.{metadata, encode, pduLength}
 use Rattle.rules.specs.States.{isIdle}
 use Rattle.rules.specs.Put.{idsFit, isFound, entryOf, knownType, allKnown, goodEntry, goodConfig, goodLengths, headOf, tooLong, padded, paddedLength, fixedOf, started, entryAnswer, putAnswer, putState}
 use Rattle.rules.specs.Good.{GoodFixed, GoodName, Good}
-use Rattle.rules.specs.declared.TransactionSeqNum.{TransactionSeqNum}
-use Rattle.rules.specs.declared.Head.{Head}
-use Rattle.rules.specs.declared.RemoteEntityConfig.{RemoteEntityConfig}
-use Rattle.rules.specs.declared.LocalEntityConfig.{LocalEntityConfig}
-use Rattle.rules.specs.declared.PutRequest.{PutRequest}
-use Rattle.rules.specs.declared.State.{State}
-use Rattle.rules.specs.declared.Refusal.{Refusal}
-use Rattle.rules.specs.declared.Answer.the-variants.{Accepted, Refused}
+use Rattle.types.specs.declared.TransactionSeqNum.{TransactionSeqNum}
+use Rattle.types.specs.declared.Head.{Head}
+use Rattle.types.specs.declared.RemoteEntityConfig.{RemoteEntityConfig}
+use Rattle.types.specs.declared.LocalEntityConfig.{LocalEntityConfig}
+use Rattle.types.specs.declared.PutRequest.{PutRequest}
+use Rattle.types.specs.declared.State.{State}
+use Rattle.types.specs.declared.Refusal.{Refusal}
+use Rattle.types.specs.declared.Answer.the-variants.{Accepted, Refused}
 use Rattle.rules.proofs.Tells.{both, but}
 use Rattle.rules.proofs.Outcomes.{passed}
 use Rattle.rules.proofs.Begun.{head-fit, entry-good, name-lengths, packet-holds, segment-range}
 use Rattle.rules.proofs.PutExactly.{tells-type, fails-actions}
 use Rattle.rules.proofs.Round.{length-encode}
-use Rattle.rules.proofs.Utf8.{utf8-exactly}
+use Rattle.rules_leaves.proofs.Utf8.{utf8-exactly}
 use Rattle.rules.proofs.GoodQueue.{good-empty}
 use Rattle.rules.proofs.GoodMarks.{good-noMarks}
 

@@ -14,8 +14,8 @@ use Rattle.basis.proofs.Pick.{cases}
 use Rattle.rules.specs.States.{blank, emptyQueue}
 use Rattle.rules.specs.Queues.{pending, isMetadata, owes, invalid, anyInvalid, owing, push, pushOwed, pushAll, oldest, pop, served}
 use Rattle.rules.specs.Good.{AllOwe, GoodQueue}
-use Rattle.rules.specs.declared.SegmentRequest.{SegmentRequest}
-use Rattle.rules.specs.declared.Queue.{Queue}
+use Rattle.types.specs.declared.SegmentRequest.{SegmentRequest}
+use Rattle.types.specs.declared.Queue.{Queue}
 use Rattle.rules.proofs.Pending.{pending-first}
 use Rattle.rules.proofs.Tells.{neither}
 

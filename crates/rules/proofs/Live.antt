@@ -26,17 +26,17 @@ use Rattle.rules.specs.Demand.{Transfer, planned, lastly, transferOf, me
 use Rattle.rules.specs.Companions.{carried, Live, ProgressMade, SecondPut, NakAsks, PlainSteps, PlainRun}
 use Rattle.rules.specs.Queues.{pending}
 use Rattle.rules.specs.Decoding.{decode}
-use Rattle.rules.specs.declared.Head.{Head}
-use Rattle.rules.specs.declared.Frame.{Frame}
-use Rattle.rules.specs.declared.LocalEntityConfig.{LocalEntityConfig}
-use Rattle.rules.specs.declared.PutRequest.{PutRequest}
-use Rattle.rules.specs.declared.SegmentRequest.{SegmentRequest}
-use Rattle.rules.specs.declared.State.{State}
-use Rattle.rules.specs.declared.TransactionStep.{TransactionStep}
-use Rattle.rules.specs.declared.TransactionStep.the-variants.{SendingMetadata}
-use Rattle.rules.specs.declared.Sending.{Sending}
-use Rattle.rules.specs.declared.Sending.the-variants.{Nothing as NoPdu, Metadata as MetadataPdu, FileData, Eof as EofPdu, AckFinished}
-use Rattle.rules.specs.declared.Answer.the-variants.{Accepted}
+use Rattle.types.specs.declared.Head.{Head}
+use Rattle.types.specs.declared.Frame.{Frame}
+use Rattle.types.specs.declared.LocalEntityConfig.{LocalEntityConfig}
+use Rattle.types.specs.declared.PutRequest.{PutRequest}
+use Rattle.types.specs.declared.SegmentRequest.{SegmentRequest}
+use Rattle.types.specs.declared.State.{State}
+use Rattle.types.specs.declared.TransactionStep.{TransactionStep}
+use Rattle.types.specs.declared.TransactionStep.the-variants.{SendingMetadata}
+use Rattle.types.specs.declared.Sending.{Sending}
+use Rattle.types.specs.declared.Sending.the-variants.{Nothing as NoPdu, Metadata as MetadataPdu, FileData, Eof as EofPdu, AckFinished}
+use Rattle.types.specs.declared.Answer.the-variants.{Accepted}
 use Rattle.rules.proofs.Round.{length-encode}
 use Rattle.rules.proofs.Heard.{heard-read}
 use Rattle.rules.proofs.Outcomes.{answer-by, state-by}

@@ -16,25 +16,25 @@ use Rattle.rules.specs.Deliver.{refused, accepted, sameTransaction, take
 use Rattle.rules.specs.Cancel.{mayCancel, userCancelled, cancelSpec}
 use Rattle.rules.specs.Tiles.{answers}
 use Rattle.rules.specs.Runs.{put, cancel, Event, turned, began, ended, after, unless, seen, requestsOfBody, requestsOfFrame, requests}
-use Rattle.rules.specs.declared.EntityId.{EntityId}
-use Rattle.rules.specs.declared.TransactionSeqNum.{TransactionSeqNum}
-use Rattle.rules.specs.declared.LocalEntityConfig.{LocalEntityConfig}
-use Rattle.rules.specs.declared.PutRequest.{PutRequest}
-use Rattle.rules.specs.declared.SegmentRequest.{SegmentRequest}
-use Rattle.rules.specs.declared.Frame.{Frame}
-use Rattle.rules.specs.declared.Framed.{Framed}
-use Rattle.rules.specs.declared.Framed.the-variants.{Malformed as NoFrame, Whole}
-use Rattle.rules.specs.declared.Body.{Body}
-use Rattle.rules.specs.declared.Body.the-variants.{Malformed as NoBody, CantProcess, Means}
-use Rattle.rules.specs.declared.Meaning.{Meaning}
-use Rattle.rules.specs.declared.Queue.{Queue}
-use Rattle.rules.specs.declared.State.{State}
-use Rattle.rules.specs.declared.Refusal.{Refusal}
-use Rattle.rules.specs.declared.Refusal.the-variants.{UnexpectedPdu, InvalidNakPdu, RetransmitFull, OtherTransaction, Malformed, CantProcessPacketType}
-use Rattle.rules.specs.declared.Answer.{Answer}
-use Rattle.rules.specs.declared.Answer.the-variants.{Accepted, Refused}
-use Rattle.rules.specs.declared.Done.{Done}
-use Rattle.rules.specs.declared.Cancelled.{Cancelled}
+use Rattle.types.specs.declared.EntityId.{EntityId}
+use Rattle.types.specs.declared.TransactionSeqNum.{TransactionSeqNum}
+use Rattle.types.specs.declared.LocalEntityConfig.{LocalEntityConfig}
+use Rattle.types.specs.declared.PutRequest.{PutRequest}
+use Rattle.types.specs.declared.SegmentRequest.{SegmentRequest}
+use Rattle.types.specs.declared.Frame.{Frame}
+use Rattle.types.specs.declared.Framed.{Framed}
+use Rattle.types.specs.declared.Framed.the-variants.{Malformed as NoFrame, Whole}
+use Rattle.types.specs.declared.Body.{Body}
+use Rattle.types.specs.declared.Body.the-variants.{Malformed as NoBody, CantProcess, Means}
+use Rattle.types.specs.declared.Meaning.{Meaning}
+use Rattle.types.specs.declared.Queue.{Queue}
+use Rattle.types.specs.declared.State.{State}
+use Rattle.types.specs.declared.Refusal.{Refusal}
+use Rattle.types.specs.declared.Refusal.the-variants.{UnexpectedPdu, InvalidNakPdu, RetransmitFull, OtherTransaction, Malformed, CantProcessPacketType}
+use Rattle.types.specs.declared.Answer.{Answer}
+use Rattle.types.specs.declared.Answer.the-variants.{Accepted, Refused}
+use Rattle.types.specs.declared.Done.{Done}
+use Rattle.types.specs.declared.Cancelled.{Cancelled}
 use Rattle.rules.proofs.Tiles.{Within}
 use Rattle.rules.proofs.Pending.{Orderly, answers-within, all-answers, orderly-all}
 

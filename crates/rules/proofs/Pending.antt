@@ -16,9 +16,9 @@ use Rattle.rules.specs.States.{blank, emptyQueue}
 use Rattle.rules.specs.Queues.{pending, isMetadata, owes, invalid, anyInvalid, owing, free, push, pushOwed, pushAll, oldest, pop, piece, served}
 use Rattle.rules.specs.Step.{repairOf}
 use Rattle.rules.specs.Tiles.{tiles, answer, answers}
-use Rattle.rules.specs.declared.SegmentRequest.{SegmentRequest}
-use Rattle.rules.specs.declared.Queue.{Queue}
-use Rattle.rules.specs.declared.Sending.the-variants.{Metadata as MetadataPdu, FileData}
+use Rattle.types.specs.declared.SegmentRequest.{SegmentRequest}
+use Rattle.types.specs.declared.Queue.{Queue}
+use Rattle.types.specs.declared.Sending.the-variants.{Metadata as MetadataPdu, FileData}
 use Rattle.rules.proofs.Tiles.{tiles-zero, tiles-step, tiles-one, Within, within-append, within-more, within-first, within-rest, tiles-within, answers-append}
 
 -- 64 places, and no more of them used

@@ -12,22 +12,22 @@ use lib.ListN.{length, take, getD, length-take}
 use lib.Seq.{getD-take}
 use Rattle.basis.specs.Pick.{pick}
 use Rattle.rules.specs.Numbers.{goodWidth, fits}
-use Rattle.rules.specs.Utf8.{isUtf8, Utf8}
+use Rattle.rules_leaves.specs.Utf8.{isUtf8, Utf8}
 use Rattle.rules.specs.Layout.{metadata, encode, pduLength}
 use Rattle.rules.specs.Refusals.{answerNo}
 use Rattle.rules.specs.States.{isIdle}
 use Rattle.rules.specs.Put.{idsFit, findIn, entries, isFound, noRemote, entryOf, knownType, knownAction, allKnown, goodEntry, goodConfig, goodLength, goodLengths, headOf, tooLong, entryAnswer, putAnswer, byAnswer, putState, putSpec}
 use Rattle.rules.specs.Exactly.{Width, Within, OneHas, lookedAt, KnownType, BadEntry, OneUnknown, BadLength, putRules, PutExactly, FoundExactly, FirstEntry}
-use Rattle.rules.specs.declared.EntityId.{EntityId}
-use Rattle.rules.specs.declared.TransactionSeqNum.{TransactionSeqNum}
-use Rattle.rules.specs.declared.Head.{Head}
-use Rattle.rules.specs.declared.RemoteEntityConfig.{RemoteEntityConfig}
-use Rattle.rules.specs.declared.LocalEntityConfig.{LocalEntityConfig}
-use Rattle.rules.specs.declared.Answer.{Answer}
+use Rattle.types.specs.declared.EntityId.{EntityId}
+use Rattle.types.specs.declared.TransactionSeqNum.{TransactionSeqNum}
+use Rattle.types.specs.declared.Head.{Head}
+use Rattle.types.specs.declared.RemoteEntityConfig.{RemoteEntityConfig}
+use Rattle.types.specs.declared.LocalEntityConfig.{LocalEntityConfig}
+use Rattle.types.specs.declared.Answer.{Answer}
 use Rattle.rules.proofs.Round.{widths-exactly, length-encode}
 use Rattle.rules.proofs.Tells.{Tells, Fails, tests, tells-eqb, tells-ltb, fails-leb, fails-not, fails-either, iff-tells, fails-iff, tells-idle}
 use Rattle.rules.proofs.Order.{hits, fails, passes, exactly}
-use Rattle.rules.proofs.Utf8.{utf8-exactly}
+use Rattle.rules_leaves.proofs.Utf8.{utf8-exactly}
 
 pub tells-width : (w : ℕ) → Tells (goodWidth w) (Width w)
 tells-width w = iff-tells (widths-exactly w)

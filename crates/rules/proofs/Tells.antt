@@ -12,8 +12,8 @@ use lib.ListN.{getD}
 use Rattle.basis.specs.Pick.{pick}
 use Rattle.rules.specs.States.{isIdle}
 use Rattle.rules.specs.Deliver.{stepNo}
-use Rattle.rules.specs.declared.TransactionStep.{TransactionStep}
-use Rattle.rules.specs.declared.TransactionStep.the-variants.{Idle, SendingMetadata, SendingFileData, SendingEof, WaitingForEofAck, WaitingForFinished, Closing}
+use Rattle.types.specs.declared.TransactionStep.{TransactionStep}
+use Rattle.types.specs.declared.TransactionStep.the-variants.{Idle, SendingMetadata, SendingFileData, SendingEof, WaitingForEofAck, WaitingForFinished, Closing}
 
 -- true exactly if P
 pub record Tells (b : Bool) (P : Type 0) : Type 0 where

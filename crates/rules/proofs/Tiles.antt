@@ -13,9 +13,9 @@ use borrow.Author.Tests.{leb-true, leb-false}
 use Rattle.basis.specs.Pick.{pick}
 use Rattle.rules.specs.Queues.{isMetadata}
 use Rattle.rules.specs.Tiles.{ceil, tilesOf, tiles, answer, answers, weight, weights}
-use Rattle.rules.specs.declared.SegmentRequest.{SegmentRequest}
-use Rattle.rules.specs.declared.Sending.{Sending}
-use Rattle.rules.specs.declared.Sending.the-variants.{Nothing as NoPdu, Metadata as MetadataPdu, FileData, Eof as EofPdu, AckFinished}
+use Rattle.types.specs.declared.SegmentRequest.{SegmentRequest}
+use Rattle.types.specs.declared.Sending.{Sending}
+use Rattle.types.specs.declared.Sending.the-variants.{Nothing as NoPdu, Metadata as MetadataPdu, FileData, Eof as EofPdu, AckFinished}
 
 -- ---- their number
 

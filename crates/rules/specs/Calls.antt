@@ -9,14 +9,14 @@ use Rattle.rules.specs.Put.{putSpec}
 use Rattle.rules.specs.Deliver.{deliverSpec}
 use Rattle.rules.specs.Step.{stepSpec, stepBytes}
 use Rattle.rules.specs.Cancel.{cancelSpec, resetSpec, newSpec}
-use Rattle.rules.specs.declared.EntityId.{EntityId}
-use Rattle.rules.specs.declared.TransactionSeqNum.{TransactionSeqNum}
-use Rattle.rules.specs.declared.LocalEntityConfig.{LocalEntityConfig}
-use Rattle.rules.specs.declared.PutRequest.{PutRequest}
-use Rattle.rules.specs.declared.State.{State}
-use Rattle.rules.specs.declared.Done.{Done}
-use Rattle.rules.specs.declared.Stepped.{Stepped}
-use Rattle.rules.specs.declared.Cancelled.{Cancelled}
+use Rattle.types.specs.declared.EntityId.{EntityId}
+use Rattle.types.specs.declared.TransactionSeqNum.{TransactionSeqNum}
+use Rattle.types.specs.declared.LocalEntityConfig.{LocalEntityConfig}
+use Rattle.types.specs.declared.PutRequest.{PutRequest}
+use Rattle.types.specs.declared.State.{State}
+use Rattle.types.specs.declared.Done.{Done}
+use Rattle.types.specs.declared.Stepped.{Stepped}
+use Rattle.types.specs.declared.Cancelled.{Cancelled}
 
 -- a put of S bytes: the answer and the whole new state
 abbrev pub PutMeets : State → LocalEntityConfig → PutRequest → List ℕ → List ℕ → ℕ → Done → Type 0

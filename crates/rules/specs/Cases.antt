@@ -11,13 +11,13 @@ use Rattle.rules.specs.Put.{noRemote, putSpec}
 use Rattle.rules.specs.Step.{stepSpec}
 use Rattle.rules.specs.Cancel.{newSpec}
 use Rattle.rules.specs.Runs.{Call, put, deliver, step, Event, made, trace, behind}
-use Rattle.rules.specs.declared.RemoteEntityConfig.{RemoteEntityConfig}
-use Rattle.rules.specs.declared.LocalEntityConfig.{LocalEntityConfig}
-use Rattle.rules.specs.declared.Choice.the-variants.{Default}
-use Rattle.rules.specs.declared.PutRequest.{PutRequest}
-use Rattle.rules.specs.declared.State.{State}
-use Rattle.rules.specs.declared.FaultEvent.{FaultEvent}
-use Rattle.rules.specs.declared.FaultEvent.the-variants.{NoFault, Fault}
+use Rattle.types.specs.declared.RemoteEntityConfig.{RemoteEntityConfig}
+use Rattle.types.specs.declared.LocalEntityConfig.{LocalEntityConfig}
+use Rattle.types.specs.declared.Choice.the-variants.{Default}
+use Rattle.types.specs.declared.PutRequest.{PutRequest}
+use Rattle.types.specs.declared.State.{State}
+use Rattle.types.specs.declared.FaultEvent.{FaultEvent}
+use Rattle.types.specs.declared.FaultEvent.the-variants.{NoFault, Fault}
 
 -- ---- "Ids 1 and 2, number 7, widths 1, .. no closure, no CRC, modular, names "a" and "b", file 41 42 43 44 45, L = 4"
 

@@ -21,12 +21,12 @@ use Rattle.rules.specs.Step.{stepSpec}
 use Rattle.rules.specs.Cancel.{newSpec}
 use Rattle.rules.specs.Tiles.{ceil, answers, weights}
 use Rattle.rules.specs.Runs.{Call, put, deliver, step, cancel, reset, Event, turned, began, took, made, ended, trace, behind, Lends, steps, BeforeEof, NoPut, NoEnd, StepsOnly, requests, emitted, firstPass}
-use Rattle.rules.specs.declared.Head.{Head}
-use Rattle.rules.specs.declared.LocalEntityConfig.{LocalEntityConfig}
-use Rattle.rules.specs.declared.PutRequest.{PutRequest}
-use Rattle.rules.specs.declared.SegmentRequest.{SegmentRequest}
-use Rattle.rules.specs.declared.Answer.the-variants.{Accepted}
-use Rattle.rules.specs.declared.State.{State}
+use Rattle.types.specs.declared.Head.{Head}
+use Rattle.types.specs.declared.LocalEntityConfig.{LocalEntityConfig}
+use Rattle.types.specs.declared.PutRequest.{PutRequest}
+use Rattle.types.specs.declared.SegmentRequest.{SegmentRequest}
+use Rattle.types.specs.declared.Answer.the-variants.{Accepted}
+use Rattle.types.specs.declared.State.{State}
 use Rattle.rules.specs.Demand.{transferOf, meant, planned, lastly, onto}
 
 -- PROMISE live: with this file lent and an out buffer of at least the packet maximum, no step before the EOF is refused. So, by `early`, the EOF

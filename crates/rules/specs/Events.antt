@@ -5,18 +5,18 @@ use mathlib.Core.Bool.{Bool, true, false}
 use mathlib.Core.List.{List, [], _∷_}
 use Prim.Native.Nat.{ℕ}
 use Rattle.rules.specs.Step.{idOf, unreported, eventsOf}
-use Rattle.rules.specs.declared.State.{State}
-use Rattle.rules.specs.declared.Due.{Due}
-use Rattle.rules.specs.declared.Due.the-variants.{CancelEof, Repair, Metadata, Data, NoErrorEof, EofAgain, FaultCancel, FaultIgnore, FaultAbandon, Close, Nothing}
-use Rattle.rules.specs.declared.Events.{Events}
-use Rattle.rules.specs.declared.TransactionId.{TransactionId}
-use Rattle.rules.specs.declared.FaultEvent.{FaultEvent}
-use Rattle.rules.specs.declared.FaultEvent.the-variants.{NoFault, Fault}
-use Rattle.rules.specs.declared.FinishedEvent.{FinishedEvent}
-use Rattle.rules.specs.declared.FinishedEvent.the-variants.{NotFinished, Finished}
-use Rattle.rules.specs.declared.FinishedParams.{FinishedParams}
-use Rattle.rules.specs.declared.TimerEvent.{TimerEvent}
-use Rattle.rules.specs.declared.TimerEvent.the-variants.{NoTimer, AckTimer, CheckTimer}
+use Rattle.types.specs.declared.State.{State}
+use Rattle.types.specs.declared.Due.{Due}
+use Rattle.types.specs.declared.Due.the-variants.{CancelEof, Repair, Metadata, Data, NoErrorEof, EofAgain, FaultCancel, FaultIgnore, FaultAbandon, Close, Nothing}
+use Rattle.types.specs.declared.Events.{Events}
+use Rattle.types.specs.declared.TransactionId.{TransactionId}
+use Rattle.types.specs.declared.FaultEvent.{FaultEvent}
+use Rattle.types.specs.declared.FaultEvent.the-variants.{NoFault, Fault}
+use Rattle.types.specs.declared.FinishedEvent.{FinishedEvent}
+use Rattle.types.specs.declared.FinishedEvent.the-variants.{NotFinished, Finished}
+use Rattle.types.specs.declared.FinishedParams.{FinishedParams}
+use Rattle.types.specs.declared.TimerEvent.{TimerEvent}
+use Rattle.types.specs.declared.TimerEvent.the-variants.{NoTimer, AckTimer, CheckTimer}
 
 -- ---- the list
 

@@ -9,8 +9,8 @@ use Prim.Native.Nat.{ℕ, _+_, _-_, _*_, _/_, _%_, _^_, _<_}
 use lib.ListN.{length, take, drop}
 use Rattle.basis.specs.Bytes.{byte, numAt}
 use Rattle.rules.specs.Numbers.{F}
-use Rattle.rules.specs.Utf8.{Utf8}
-use Rattle.rules.specs.Checksum.{crc16}
+use Rattle.rules_leaves.specs.Utf8.{Utf8}
+use Rattle.rules_leaves.specs.Checksum.{crc16}
 use Rattle.rules.specs.Layout.{metadata, encode}
 use Rattle.rules.specs.Reading.{versionIn, idWidthIn, seqWidthIn, lengthIn, crcIn, largeIn, fileDataIn, toSenderIn, headIn, endIn, frameIn, bodyIn, requestCount}
 use Rattle.rules.specs.PduLaws.{Tlvs}
@@ -21,19 +21,19 @@ use Rattle.rules.specs.Put.{isFound, entryOf, chosen, headOf, putSpec}
 use Rattle.rules.specs.Deliver.{requestsIn, deliverSpec}
 use Rattle.rules.specs.Step.{bytesDue, stepSpec, stepBytes}
 use Rattle.rules.specs.Cancel.{cancelSpec}
-use Rattle.rules.specs.declared.EntityId.{EntityId}
-use Rattle.rules.specs.declared.TransactionSeqNum.{TransactionSeqNum}
-use Rattle.rules.specs.declared.Head.{Head}
-use Rattle.rules.specs.declared.SegmentRequest.{SegmentRequest}
-use Rattle.rules.specs.declared.RemoteEntityConfig.{RemoteEntityConfig}
-use Rattle.rules.specs.declared.LocalEntityConfig.{LocalEntityConfig}
-use Rattle.rules.specs.declared.PutRequest.{PutRequest}
-use Rattle.rules.specs.declared.State.{State}
-use Rattle.rules.specs.declared.TransactionStep.the-variants.{Idle, SendingMetadata, WaitingForEofAck, WaitingForFinished, Closing}
-use Rattle.rules.specs.declared.Events.{Events}
-use Rattle.rules.specs.declared.FaultEvent.the-variants.{NoFault}
-use Rattle.rules.specs.declared.FinishedEvent.the-variants.{NotFinished}
-use Rattle.rules.specs.declared.TimerEvent.the-variants.{NoTimer}
+use Rattle.types.specs.declared.EntityId.{EntityId}
+use Rattle.types.specs.declared.TransactionSeqNum.{TransactionSeqNum}
+use Rattle.types.specs.declared.Head.{Head}
+use Rattle.types.specs.declared.SegmentRequest.{SegmentRequest}
+use Rattle.types.specs.declared.RemoteEntityConfig.{RemoteEntityConfig}
+use Rattle.types.specs.declared.LocalEntityConfig.{LocalEntityConfig}
+use Rattle.types.specs.declared.PutRequest.{PutRequest}
+use Rattle.types.specs.declared.State.{State}
+use Rattle.types.specs.declared.TransactionStep.the-variants.{Idle, SendingMetadata, WaitingForEofAck, WaitingForFinished, Closing}
+use Rattle.types.specs.declared.Events.{Events}
+use Rattle.types.specs.declared.FaultEvent.the-variants.{NoFault}
+use Rattle.types.specs.declared.FinishedEvent.the-variants.{NotFinished}
+use Rattle.types.specs.declared.TimerEvent.the-variants.{NoTimer}
 
 -- ---- a table of refusals
 

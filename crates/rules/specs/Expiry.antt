@@ -10,10 +10,10 @@ use Rattle.rules.specs.Layout.{eof, encode}
 use Rattle.rules.specs.States.{withMarks, counted}
 use Rattle.rules.specs.Step.{faultDue, dueOf}
 use Rattle.rules.specs.Runs.{Call, step, made, trace, behind}
-use Rattle.rules.specs.declared.Fixed.{Fixed}
-use Rattle.rules.specs.declared.State.{State}
-use Rattle.rules.specs.declared.TransactionStep.the-variants.{WaitingForEofAck}
-use Rattle.rules.specs.declared.Due.the-variants.{EofAgain, Nothing}
+use Rattle.types.specs.declared.Fixed.{Fixed}
+use Rattle.types.specs.declared.State.{State}
+use Rattle.types.specs.declared.TransactionStep.the-variants.{WaitingForEofAck}
+use Rattle.types.specs.declared.Due.the-variants.{EofAgain, Nothing}
 
 -- an EOF waits for its ACK, and nothing comes before an expiry: no EOF is owed, no request is pending
 abbrev pub Waits : State → Type 0

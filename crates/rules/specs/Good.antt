@@ -9,7 +9,7 @@ use Prim.Native.Nat.{ℕ, _+_, _-_, _^_, _<_, _≤_}
 use lib.ListN.{length, take, drop, replicate}
 use Rattle.basis.specs.Bytes.{Bytes}
 use Rattle.rules.specs.Numbers.{numberAfter, isLarge, H, F, C}
-use Rattle.rules.specs.Utf8.{Utf8}
+use Rattle.rules_leaves.specs.Utf8.{Utf8}
 use Rattle.rules.specs.Layout.{metadata, encode}
 use Rattle.rules.specs.PduLaws.{Fit}
 use Rattle.rules.specs.States.{blank, emptyQueue, noFile, idle, sourceName, destinationName}
@@ -20,18 +20,18 @@ use Rattle.rules.specs.Step.{bytesDue, stepSpec}
 use Rattle.rules.specs.Cancel.{cancelSpec, resetSpec, newSpec}
 use Rattle.rules.specs.Runs.{Call, put, deliver, step, cancel, reset, behind}
 use Rattle.rules.specs.Exactly.{KnownType, OneUnknown}
-use Rattle.rules.specs.declared.EntityId.{EntityId}
-use Rattle.rules.specs.declared.TransactionSeqNum.{TransactionSeqNum}
-use Rattle.rules.specs.declared.LocalEntityConfig.{LocalEntityConfig}
-use Rattle.rules.specs.declared.PutRequest.{PutRequest}
-use Rattle.rules.specs.declared.SegmentRequest.{SegmentRequest}
-use Rattle.rules.specs.declared.Fixed.{Fixed}
-use Rattle.rules.specs.declared.Names.{Names}
-use Rattle.rules.specs.declared.Queue.{Queue}
-use Rattle.rules.specs.declared.Marks.{Marks}
-use Rattle.rules.specs.declared.State.{State}
-use Rattle.rules.specs.declared.TransactionStep.{TransactionStep}
-use Rattle.rules.specs.declared.TransactionStep.the-variants.{Idle, SendingMetadata, SendingFileData, SendingEof, WaitingForEofAck, WaitingForFinished, Closing}
+use Rattle.types.specs.declared.EntityId.{EntityId}
+use Rattle.types.specs.declared.TransactionSeqNum.{TransactionSeqNum}
+use Rattle.types.specs.declared.LocalEntityConfig.{LocalEntityConfig}
+use Rattle.types.specs.declared.PutRequest.{PutRequest}
+use Rattle.types.specs.declared.SegmentRequest.{SegmentRequest}
+use Rattle.types.specs.declared.Fixed.{Fixed}
+use Rattle.types.specs.declared.Names.{Names}
+use Rattle.types.specs.declared.Queue.{Queue}
+use Rattle.types.specs.declared.Marks.{Marks}
+use Rattle.types.specs.declared.State.{State}
+use Rattle.types.specs.declared.TransactionStep.{TransactionStep}
+use Rattle.types.specs.declared.TransactionStep.the-variants.{Idle, SendingMetadata, SendingFileData, SendingEof, WaitingForEofAck, WaitingForFinished, Closing}
 
 -- ---- pending requests
 

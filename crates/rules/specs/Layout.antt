@@ -10,11 +10,11 @@ use Rattle.basis.specs.Pick.{pick, flag}
 use Rattle.basis.specs.Bytes.{be}
 use Rattle.rules.specs.Fields.{Field, nat, raw, wire, sizes}
 use Rattle.rules.specs.Numbers.{H, F, C}
-use Rattle.rules.specs.Checksum.{crc16}
-use Rattle.rules.specs.declared.Head.{Head}
-use Rattle.rules.specs.declared.SegmentRequest.{SegmentRequest}
-use Rattle.rules.specs.declared.Written.{Written}
-use Rattle.rules.specs.declared.Written.the-variants.{Short, Wrote}
+use Rattle.rules_leaves.specs.Checksum.{crc16}
+use Rattle.types.specs.declared.Head.{Head}
+use Rattle.types.specs.declared.SegmentRequest.{SegmentRequest}
+use Rattle.types.specs.declared.Written.{Written}
+use Rattle.types.specs.declared.Written.the-variants.{Short, Wrote}
 
 -- ---- what PDUs say
 

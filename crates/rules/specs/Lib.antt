@@ -1,7 +1,4 @@
 pub mod Numbers
-pub mod Utf8
-pub mod Checksum
-pub mod ChecksumCases
 pub mod Fields
 pub mod Layout
 pub mod Reading

@@ -13,19 +13,19 @@ use Rattle.basis.specs.Pick.{pick}
 use Rattle.basis.specs.Bytes.{byte, numAt, Bytes}
 use Rattle.rules.specs.Fields.{wire}
 use Rattle.rules.specs.Numbers.{goodWidth, H, F, C}
-use Rattle.rules.specs.Checksum.{crc16}
+use Rattle.rules_leaves.specs.Checksum.{crc16}
 use Rattle.rules.specs.Layout.{Said, metadata, fileData, eof, ackFinished, Heard, finished, ackEof, nak, keepAlive, Pdu, headBytes, layout, layoutHeard, trailer, encode, encodeHeard, pduLength}
 use Rattle.rules.specs.Reading.{reserved, lengthIn, frameIn, framedIn, headIn, hIn, bodyIn, bodyOf, areTlvs, directiveIn, requestsFrom}
 use Rattle.rules.specs.Decoding.{decode, isEofIn}
-use Rattle.rules.specs.declared.Head.{Head}
-use Rattle.rules.specs.declared.Frame.{Frame}
-use Rattle.rules.specs.declared.Framed.{Framed}
-use Rattle.rules.specs.declared.Framed.the-variants.{Malformed as NoFrame, Whole}
-use Rattle.rules.specs.declared.SegmentRequest.{SegmentRequest}
-use Rattle.rules.specs.declared.Meaning.{Meaning}
-use Rattle.rules.specs.declared.Meaning.the-variants.{Finished, AckOfEof, Nak, KeepAlive}
-use Rattle.rules.specs.declared.Body.{Body}
-use Rattle.rules.specs.declared.Body.the-variants.{Malformed, CantProcess, Means}
+use Rattle.types.specs.declared.Head.{Head}
+use Rattle.types.specs.declared.Frame.{Frame}
+use Rattle.types.specs.declared.Framed.{Framed}
+use Rattle.types.specs.declared.Framed.the-variants.{Malformed as NoFrame, Whole}
+use Rattle.types.specs.declared.SegmentRequest.{SegmentRequest}
+use Rattle.types.specs.declared.Meaning.{Meaning}
+use Rattle.types.specs.declared.Meaning.the-variants.{Finished, AckOfEof, Nak, KeepAlive}
+use Rattle.types.specs.declared.Body.{Body}
+use Rattle.types.specs.declared.Body.the-variants.{Malformed, CantProcess, Means}
 
 -- ---- what can be written
 

@@ -8,8 +8,8 @@ use lib.Dec.{eqb, leb, ltb}
 use lib.ListN.{length, getD, take, drop, set}
 use Rattle.basis.specs.Pick.{pick}
 use Rattle.rules.specs.States.{blank}
-use Rattle.rules.specs.declared.SegmentRequest.{SegmentRequest}
-use Rattle.rules.specs.declared.Queue.{Queue}
+use Rattle.types.specs.declared.SegmentRequest.{SegmentRequest}
+use Rattle.types.specs.declared.Queue.{Queue}
 
 -- the requests that are pending, oldest first
 unfoldable pub pending : Queue → List SegmentRequest

@@ -16,20 +16,20 @@ use Rattle.rules.specs.Deliver.{deliverSpec, asked}
 use Rattle.rules.specs.Step.{stepSpec, stepBytes}
 use Rattle.rules.specs.Cancel.{cancelSpec, resetSpec}
 use Rattle.rules.specs.Tiles.{answers, weights}
-use Rattle.rules.specs.declared.EntityId.{EntityId}
-use Rattle.rules.specs.declared.TransactionSeqNum.{TransactionSeqNum}
-use Rattle.rules.specs.declared.LocalEntityConfig.{LocalEntityConfig}
-use Rattle.rules.specs.declared.PutRequest.{PutRequest}
-use Rattle.rules.specs.declared.SegmentRequest.{SegmentRequest}
-use Rattle.rules.specs.declared.Frame.{Frame}
-use Rattle.rules.specs.declared.Framed.{Framed}
-use Rattle.rules.specs.declared.Framed.the-variants.{Malformed as NoFrame, Whole}
-use Rattle.rules.specs.declared.Body.{Body}
-use Rattle.rules.specs.declared.Body.the-variants.{Malformed as NoBody, CantProcess, Means}
-use Rattle.rules.specs.declared.Answer.{Answer}
-use Rattle.rules.specs.declared.Answer.the-variants.{Accepted, Refused}
-use Rattle.rules.specs.declared.Sending.{Sending}
-use Rattle.rules.specs.declared.State.{State}
+use Rattle.types.specs.declared.EntityId.{EntityId}
+use Rattle.types.specs.declared.TransactionSeqNum.{TransactionSeqNum}
+use Rattle.types.specs.declared.LocalEntityConfig.{LocalEntityConfig}
+use Rattle.types.specs.declared.PutRequest.{PutRequest}
+use Rattle.types.specs.declared.SegmentRequest.{SegmentRequest}
+use Rattle.types.specs.declared.Frame.{Frame}
+use Rattle.types.specs.declared.Framed.{Framed}
+use Rattle.types.specs.declared.Framed.the-variants.{Malformed as NoFrame, Whole}
+use Rattle.types.specs.declared.Body.{Body}
+use Rattle.types.specs.declared.Body.the-variants.{Malformed as NoBody, CantProcess, Means}
+use Rattle.types.specs.declared.Answer.{Answer}
+use Rattle.types.specs.declared.Answer.the-variants.{Accepted, Refused}
+use Rattle.types.specs.declared.Sending.{Sending}
+use Rattle.types.specs.declared.State.{State}
 
 -- ---- calls and events
 

@@ -4,19 +4,19 @@ use mathlib.Core.Bool.{Bool, true, false}
 use mathlib.Core.List.{List}
 use Prim.Native.Nat.{ℕ}
 use lib.ListN.{replicate, take}
-use Rattle.rules.specs.declared.SegmentRequest.{SegmentRequest}
-use Rattle.rules.specs.declared.FinishedParams.{FinishedParams}
-use Rattle.rules.specs.declared.Head.{Head}
-use Rattle.rules.specs.declared.Fixed.{Fixed}
-use Rattle.rules.specs.declared.Names.{Names}
-use Rattle.rules.specs.declared.Eof.{Eof}
-use Rattle.rules.specs.declared.FileParams.{FileParams}
-use Rattle.rules.specs.declared.Queue.{Queue}
-use Rattle.rules.specs.declared.Marks.{Marks}
-use Rattle.rules.specs.declared.State.{State}
-use Rattle.rules.specs.declared.TransactionSeqNum.{TransactionSeqNum}
-use Rattle.rules.specs.declared.TransactionStep.{TransactionStep}
-use Rattle.rules.specs.declared.TransactionStep.the-variants.{Idle, SendingMetadata, SendingFileData, SendingEof, WaitingForEofAck, WaitingForFinished, Closing}
+use Rattle.types.specs.declared.SegmentRequest.{SegmentRequest}
+use Rattle.types.specs.declared.FinishedParams.{FinishedParams}
+use Rattle.types.specs.declared.Head.{Head}
+use Rattle.types.specs.declared.Fixed.{Fixed}
+use Rattle.types.specs.declared.Names.{Names}
+use Rattle.types.specs.declared.Eof.{Eof}
+use Rattle.types.specs.declared.FileParams.{FileParams}
+use Rattle.types.specs.declared.Queue.{Queue}
+use Rattle.types.specs.declared.Marks.{Marks}
+use Rattle.types.specs.declared.State.{State}
+use Rattle.types.specs.declared.TransactionSeqNum.{TransactionSeqNum}
+use Rattle.types.specs.declared.TransactionStep.{TransactionStep}
+use Rattle.types.specs.declared.TransactionStep.the-variants.{Idle, SendingMetadata, SendingFileData, SendingEof, WaitingForEofAck, WaitingForFinished, Closing}
 
 abbrev pub isIdle : TransactionStep → Bool
 isIdle Idle = true

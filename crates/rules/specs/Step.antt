@@ -8,33 +8,33 @@ use lib.Dec.{eqb, leb, ltb}
 use lib.ListN.{length, getD, take, drop}
 use Rattle.basis.specs.Pick.{pick}
 use Rattle.basis.specs.Laid.{inFront}
-use Rattle.rules.specs.Checksum.{sumOf}
+use Rattle.rules_leaves.specs.Checksum.{sumOf}
 use Rattle.rules.specs.Layout.{Said, metadata, fileData, eof, ackFinished, encode}
 use Rattle.rules.specs.States.{isIdle, toStep, withFile, withQueue, withMarks, progressed, keeping, counted, marked, settled, emptyQueue, idle, sourceName, destinationName}
 use Rattle.rules.specs.Queues.{isMetadata, oldest, piece, served}
-use Rattle.rules.specs.declared.Head.{Head}
-use Rattle.rules.specs.declared.SegmentRequest.{SegmentRequest}
-use Rattle.rules.specs.declared.Eof.{Eof}
-use Rattle.rules.specs.declared.State.{State}
-use Rattle.rules.specs.declared.TransactionStep.{TransactionStep}
-use Rattle.rules.specs.declared.TransactionStep.the-variants.{Idle, SendingMetadata, SendingFileData, SendingEof, WaitingForEofAck, WaitingForFinished, Closing}
-use Rattle.rules.specs.declared.Due.{Due}
-use Rattle.rules.specs.declared.Due.the-variants.{CancelEof, Repair, Metadata, Data, NoErrorEof, EofAgain, FaultCancel, FaultIgnore, FaultAbandon, Close, Nothing}
-use Rattle.rules.specs.declared.Sending.{Sending}
-use Rattle.rules.specs.declared.Sending.the-variants.{Nothing as NoPdu, Metadata as MetadataPdu, FileData, Eof as EofPdu, AckFinished}
-use Rattle.rules.specs.declared.Events.{Events}
-use Rattle.rules.specs.declared.TransactionId.{TransactionId}
-use Rattle.rules.specs.declared.FaultEvent.{FaultEvent}
-use Rattle.rules.specs.declared.FaultEvent.the-variants.{NoFault, Fault}
-use Rattle.rules.specs.declared.FinishedEvent.{FinishedEvent}
-use Rattle.rules.specs.declared.FinishedEvent.the-variants.{NotFinished, Finished}
-use Rattle.rules.specs.declared.FinishedParams.{FinishedParams}
-use Rattle.rules.specs.declared.TimerEvent.{TimerEvent}
-use Rattle.rules.specs.declared.TimerEvent.the-variants.{NoTimer, AckTimer, CheckTimer}
-use Rattle.rules.specs.declared.Refusal.{Refusal}
-use Rattle.rules.specs.declared.Refusal.the-variants.{FileChanged, OutTooSmall}
-use Rattle.rules.specs.declared.Answer.the-variants.{Accepted, Refused}
-use Rattle.rules.specs.declared.Stepped.{Stepped}
+use Rattle.types.specs.declared.Head.{Head}
+use Rattle.types.specs.declared.SegmentRequest.{SegmentRequest}
+use Rattle.types.specs.declared.Eof.{Eof}
+use Rattle.types.specs.declared.State.{State}
+use Rattle.types.specs.declared.TransactionStep.{TransactionStep}
+use Rattle.types.specs.declared.TransactionStep.the-variants.{Idle, SendingMetadata, SendingFileData, SendingEof, WaitingForEofAck, WaitingForFinished, Closing}
+use Rattle.types.specs.declared.Due.{Due}
+use Rattle.types.specs.declared.Due.the-variants.{CancelEof, Repair, Metadata, Data, NoErrorEof, EofAgain, FaultCancel, FaultIgnore, FaultAbandon, Close, Nothing}
+use Rattle.types.specs.declared.Sending.{Sending}
+use Rattle.types.specs.declared.Sending.the-variants.{Nothing as NoPdu, Metadata as MetadataPdu, FileData, Eof as EofPdu, AckFinished}
+use Rattle.types.specs.declared.Events.{Events}
+use Rattle.types.specs.declared.TransactionId.{TransactionId}
+use Rattle.types.specs.declared.FaultEvent.{FaultEvent}
+use Rattle.types.specs.declared.FaultEvent.the-variants.{NoFault, Fault}
+use Rattle.types.specs.declared.FinishedEvent.{FinishedEvent}
+use Rattle.types.specs.declared.FinishedEvent.the-variants.{NotFinished, Finished}
+use Rattle.types.specs.declared.FinishedParams.{FinishedParams}
+use Rattle.types.specs.declared.TimerEvent.{TimerEvent}
+use Rattle.types.specs.declared.TimerEvent.the-variants.{NoTimer, AckTimer, CheckTimer}
+use Rattle.types.specs.declared.Refusal.{Refusal}
+use Rattle.types.specs.declared.Refusal.the-variants.{FileChanged, OutTooSmall}
+use Rattle.types.specs.declared.Answer.the-variants.{Accepted, Refused}
+use Rattle.types.specs.declared.Stepped.{Stepped}
 
 -- ---- faults: "the action is the configured one of sixteen for the condition; once cancelled it is abandon"
 

@@ -4,9 +4,9 @@ use mathlib.Core.List.{List, [], _∷_, _++_}
 use Prim.Native.Nat.{ℕ, zero, suc, _+_, _-_, _/_, min}
 use Rattle.basis.specs.Pick.{pick}
 use Rattle.rules.specs.Queues.{isMetadata}
-use Rattle.rules.specs.declared.SegmentRequest.{SegmentRequest}
-use Rattle.rules.specs.declared.Sending.{Sending}
-use Rattle.rules.specs.declared.Sending.the-variants.{Metadata as MetadataPdu, FileData}
+use Rattle.types.specs.declared.SegmentRequest.{SegmentRequest}
+use Rattle.types.specs.declared.Sending.{Sending}
+use Rattle.types.specs.declared.Sending.the-variants.{Metadata as MetadataPdu, FileData}
 
 -- "ceil(n/L)": n / L, rounded up
 unfoldable pub ceil : ℕ → ℕ → ℕ

@@ -10,11 +10,11 @@ use Rattle.rules.specs.Put.{putSpec}
 use Rattle.rules.specs.Deliver.{deliverSpec}
 use Rattle.rules.specs.Step.{stepSpec}
 use Rattle.rules.specs.Cancel.{cancelSpec, resetSpec, newSpec}
-use Rattle.rules.specs.declared.State.{State}
-use Rattle.rules.specs.declared.Refusal.{Refusal}
-use Rattle.rules.specs.declared.Refusal.the-variants.{AlreadyBusy, BadIdWidth, NoRemoteCfgFound, BadConfig, BadNameLength, SourceFileNotValidUtf8, DestFileNotValidUtf8, PacketLimit, Malformed, CantProcessPacketType, UnexpectedPdu, OtherTransaction, InvalidNakPdu, RetransmitFull, FileChanged, OutTooSmall}
-use Rattle.rules.specs.declared.Answer.{Answer}
-use Rattle.rules.specs.declared.Answer.the-variants.{Accepted, Refused}
+use Rattle.types.specs.declared.State.{State}
+use Rattle.types.specs.declared.Refusal.{Refusal}
+use Rattle.types.specs.declared.Refusal.the-variants.{AlreadyBusy, BadIdWidth, NoRemoteCfgFound, BadConfig, BadNameLength, SourceFileNotValidUtf8, DestFileNotValidUtf8, PacketLimit, Malformed, CantProcessPacketType, UnexpectedPdu, OtherTransaction, InvalidNakPdu, RetransmitFull, FileChanged, OutTooSmall}
+use Rattle.types.specs.declared.Answer.{Answer}
+use Rattle.types.specs.declared.Answer.the-variants.{Accepted, Refused}
 use Rattle.rules.proofs.Exactly.{refusal-changes-nothing}
 use Rattle.seam_memory.specs.Memory.{flagOf, stateOf, configOf, heldOf, reportOf, noReport, requestOf}
 use Rattle.seam_calls.specs.Seam.{byAnswer, byWord, newDone, putDone, deliverDone, stepDone, stepOut, cancelDone, resetDone}

@@ -11,10 +11,10 @@ use Rattle.rules.specs.Deliver.{deliverSpec}
 use Rattle.rules.specs.Step.{stepSpec, stepBytes}
 use Rattle.rules.specs.Cancel.{cancelSpec, resetSpec, newSpec}
 use Rattle.seam_memory.specs.Memory.{flagOf, configOf, stateOf, heldOf, reportOf, noReport, requestOf}
-use Rattle.rules.specs.declared.State.{State}
-use Rattle.rules.specs.declared.Answer.{Answer}
-use Rattle.rules.specs.declared.Answer.the-variants.{Accepted, Refused}
-use Rattle.rules.specs.declared.Cancelled.{Cancelled}
+use Rattle.types.specs.declared.State.{State}
+use Rattle.types.specs.declared.Answer.{Answer}
+use Rattle.types.specs.declared.Answer.the-variants.{Accepted, Refused}
+use Rattle.types.specs.declared.Cancelled.{Cancelled}
 use Rattle.seam_memory.specs.declared.Report.{Report}
 use Rattle.seam_memory.specs.declared.Handler.{Handler}
 use Rattle.seam_calls.specs.declared.Done.{Done}

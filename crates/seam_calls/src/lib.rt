@@ -3,16 +3,16 @@
 ghost use mathlib.Core.Path.{_≡_};
 ghost use Rattle.rules.specs.Refusals.{answerNo};
 ghost use Rattle.seam_calls.specs.Seam.{stored, byAnswer, byWord, newDone, putDone, deliverDone, stepDone, stepOut, cancelDone, resetDone};
-use rules::Answer;
-use rules::Cancelled;
-use rules::EntityId;
-use rules::State;
-use rules::TransactionSeqNum;
 use seam_memory::Handler;
 use seam_memory::Report;
 use seam_memory::events;
 use seam_memory::stored::held_of;
 use seam_memory::taken;
+use types::Answer;
+use types::Cancelled;
+use types::EntityId;
+use types::State;
+use types::TransactionSeqNum;
 
 // What a call returns and what is stored.
 pub struct Done {

@@ -5,16 +5,16 @@ use mathlib.Core.Bool.{Bool, true, false}
 use lib.Dec.{eqb}
 use Rattle.basis.specs.Pick.{pick, flag}
 use Rattle.rules.specs.Deliver.{stepNo}
-use Rattle.rules.specs.declared.Fixed.{Fixed}
-use Rattle.rules.specs.declared.Marks.{Marks}
-use Rattle.rules.specs.declared.TransactionStep.{TransactionStep}
-use Rattle.rules.specs.declared.TransactionStep.the-variants.{Idle, SendingMetadata, SendingFileData, SendingEof, WaitingForEofAck, WaitingForFinished, Closing}
-use Rattle.rules.specs.declared.FaultEvent.{FaultEvent}
-use Rattle.rules.specs.declared.FaultEvent.the-variants.{NoFault, Fault}
-use Rattle.rules.specs.declared.FinishedEvent.{FinishedEvent}
-use Rattle.rules.specs.declared.FinishedEvent.the-variants.{NotFinished, Finished}
-use Rattle.rules.specs.declared.TimerEvent.{TimerEvent}
-use Rattle.rules.specs.declared.TimerEvent.the-variants.{NoTimer, AckTimer, CheckTimer}
+use Rattle.types.specs.declared.Fixed.{Fixed}
+use Rattle.types.specs.declared.Marks.{Marks}
+use Rattle.types.specs.declared.TransactionStep.{TransactionStep}
+use Rattle.types.specs.declared.TransactionStep.the-variants.{Idle, SendingMetadata, SendingFileData, SendingEof, WaitingForEofAck, WaitingForFinished, Closing}
+use Rattle.types.specs.declared.FaultEvent.{FaultEvent}
+use Rattle.types.specs.declared.FaultEvent.the-variants.{NoFault, Fault}
+use Rattle.types.specs.declared.FinishedEvent.{FinishedEvent}
+use Rattle.types.specs.declared.FinishedEvent.the-variants.{NotFinished, Finished}
+use Rattle.types.specs.declared.TimerEvent.{TimerEvent}
+use Rattle.types.specs.declared.TimerEvent.the-variants.{NoTimer, AckTimer, CheckTimer}
 use Rattle.seam_memory.specs.Memory.{flagOf, stepOf, headTaken, fixedTaken, marksTaken, stateOf, fixedStored, marksStored, heldOf, faultFlag, faultAction, faultCondition, faultProgress, finishedFlag, finishedValues, timerNo, reportOf}
 use Rattle.seam_memory.specs.Kept.{StateKept, EventsKept}
 

@@ -3,15 +3,15 @@
 use mathlib.Core.Path.{_≡_}
 use lib.Dec.{eqb}
 use Rattle.basis.specs.Pick.{pick}
-use Rattle.rules.specs.declared.State.{State}
-use Rattle.rules.specs.declared.Events.{Events}
-use Rattle.rules.specs.declared.FaultEvent.{FaultEvent}
-use Rattle.rules.specs.declared.FaultEvent.the-variants.{NoFault, Fault}
-use Rattle.rules.specs.declared.FinishedEvent.{FinishedEvent}
-use Rattle.rules.specs.declared.FinishedEvent.the-variants.{NotFinished, Finished}
-use Rattle.rules.specs.declared.TimerEvent.{TimerEvent}
-use Rattle.rules.specs.declared.TimerEvent.the-variants.{NoTimer, AckTimer, CheckTimer}
-use Rattle.rules.specs.declared.Stepped.{Stepped}
+use Rattle.types.specs.declared.State.{State}
+use Rattle.types.specs.declared.Events.{Events}
+use Rattle.types.specs.declared.FaultEvent.{FaultEvent}
+use Rattle.types.specs.declared.FaultEvent.the-variants.{NoFault, Fault}
+use Rattle.types.specs.declared.FinishedEvent.{FinishedEvent}
+use Rattle.types.specs.declared.FinishedEvent.the-variants.{NotFinished, Finished}
+use Rattle.types.specs.declared.TimerEvent.{TimerEvent}
+use Rattle.types.specs.declared.TimerEvent.the-variants.{NoTimer, AckTimer, CheckTimer}
+use Rattle.types.specs.declared.Stepped.{Stepped}
 use Rattle.seam_memory.specs.Memory.{flagOf, stateOf, heldOf, reportOf}
 use Rattle.seam_memory.specs.declared.Config.{Config}
 use Rattle.seam_memory.specs.declared.Report.{Report}

@@ -7,25 +7,25 @@ use lib.Dec.{eqb}
 use Rattle.basis.specs.Pick.{pick, flag}
 use Rattle.rules.specs.States.{notFinished}
 use Rattle.rules.specs.Deliver.{stepNo}
-use Rattle.rules.specs.declared.RemoteEntityConfig.{RemoteEntityConfig}
-use Rattle.rules.specs.declared.LocalEntityConfig.{LocalEntityConfig}
-use Rattle.rules.specs.declared.Choice.{Choice}
-use Rattle.rules.specs.declared.Choice.the-variants.{Given, Default}
-use Rattle.rules.specs.declared.PutRequest.{PutRequest}
-use Rattle.rules.specs.declared.Head.{Head}
-use Rattle.rules.specs.declared.Fixed.{Fixed}
-use Rattle.rules.specs.declared.Marks.{Marks}
-use Rattle.rules.specs.declared.State.{State}
-use Rattle.rules.specs.declared.TransactionStep.{TransactionStep}
-use Rattle.rules.specs.declared.TransactionStep.the-variants.{Idle, SendingMetadata, SendingFileData, SendingEof, WaitingForEofAck, WaitingForFinished, Closing}
-use Rattle.rules.specs.declared.FaultEvent.{FaultEvent}
-use Rattle.rules.specs.declared.FaultEvent.the-variants.{NoFault, Fault}
-use Rattle.rules.specs.declared.FinishedEvent.{FinishedEvent}
-use Rattle.rules.specs.declared.FinishedEvent.the-variants.{NotFinished, Finished}
-use Rattle.rules.specs.declared.FinishedParams.{FinishedParams}
-use Rattle.rules.specs.declared.TimerEvent.{TimerEvent}
-use Rattle.rules.specs.declared.TimerEvent.the-variants.{NoTimer, AckTimer, CheckTimer}
-use Rattle.rules.specs.declared.Stepped.{Stepped}
+use Rattle.types.specs.declared.RemoteEntityConfig.{RemoteEntityConfig}
+use Rattle.types.specs.declared.LocalEntityConfig.{LocalEntityConfig}
+use Rattle.types.specs.declared.Choice.{Choice}
+use Rattle.types.specs.declared.Choice.the-variants.{Given, Default}
+use Rattle.types.specs.declared.PutRequest.{PutRequest}
+use Rattle.types.specs.declared.Head.{Head}
+use Rattle.types.specs.declared.Fixed.{Fixed}
+use Rattle.types.specs.declared.Marks.{Marks}
+use Rattle.types.specs.declared.State.{State}
+use Rattle.types.specs.declared.TransactionStep.{TransactionStep}
+use Rattle.types.specs.declared.TransactionStep.the-variants.{Idle, SendingMetadata, SendingFileData, SendingEof, WaitingForEofAck, WaitingForFinished, Closing}
+use Rattle.types.specs.declared.FaultEvent.{FaultEvent}
+use Rattle.types.specs.declared.FaultEvent.the-variants.{NoFault, Fault}
+use Rattle.types.specs.declared.FinishedEvent.{FinishedEvent}
+use Rattle.types.specs.declared.FinishedEvent.the-variants.{NotFinished, Finished}
+use Rattle.types.specs.declared.FinishedParams.{FinishedParams}
+use Rattle.types.specs.declared.TimerEvent.{TimerEvent}
+use Rattle.types.specs.declared.TimerEvent.the-variants.{NoTimer, AckTimer, CheckTimer}
+use Rattle.types.specs.declared.Stepped.{Stepped}
 use Rattle.seam_memory.specs.declared.Remote.{Remote}
 use Rattle.seam_memory.specs.declared.Config.{Config}
 use Rattle.seam_memory.specs.declared.Transaction.{Transaction}

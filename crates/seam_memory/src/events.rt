@@ -2,13 +2,13 @@
 ghost use mathlib.Core.Path.{_≡_};
 ghost use Rattle.seam_memory.specs.Memory.{faultFlag, faultAction, faultCondition, faultProgress, finishedFlag, finishedValues, timerNo, reportOf, noReport};
 use crate::Report;
-use rules::EntityId;
-use rules::FaultEvent;
-use rules::FinishedEvent;
-use rules::FinishedParams;
-use rules::Stepped;
-use rules::TimerEvent;
-use rules::TransactionSeqNum;
+use types::EntityId;
+use types::FaultEvent;
+use types::FinishedEvent;
+use types::FinishedParams;
+use types::Stepped;
+use types::TimerEvent;
+use types::TransactionSeqNum;
 
 fn fault_flag(f: FaultEvent) -> u8
     ensures { λ r. ⌜ r ≡ faultFlag f ⌝ }
@@ -115,8 +115,8 @@ pub fn report_of(d: Stepped) -> Report
     let values = finished_values(g);
     let k = e.timer;
     let timer = timer_no(k);
-    let transaction = basis::bit_of(e.transaction);
-    let eofsent = basis::bit_of(e.eofsent);
+    let transaction = fields::bit_of(e.transaction);
+    let eofsent = fields::bit_of(e.eofsent);
     let source = e.id.0;
     let number = e.id.1;
     Report {

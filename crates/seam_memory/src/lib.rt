@@ -4,12 +4,12 @@ pub mod events;
 pub mod stored;
 pub mod taken;
 
-use rules::EntityId;
-use rules::FileParams;
-use rules::FinishedParams;
-use rules::Names;
-use rules::Queue;
-use rules::TransactionSeqNum;
+use types::EntityId;
+use types::FileParams;
+use types::FinishedParams;
+use types::Names;
+use types::Queue;
+use types::TransactionSeqNum;
 
 // An entry of the table of remote entities. Here and below a flag is a byte: 0 is clear, any other is set.
 #[repr(C)]
@@ -35,7 +35,7 @@ pub struct Config {
     pub finished: u8,
 }
 
-// What a put fixes: rules::Fixed with its head.
+// What a put fixes: types::Fixed with its head.
 #[repr(C)]
 pub struct Transaction {
     pub source: EntityId,
@@ -54,7 +54,7 @@ pub struct Transaction {
     pub finished: u8,
 }
 
-// rules::Marks.
+// types::Marks.
 #[repr(C)]
 pub struct HeldMarks {
     pub cancelled: u8,

@@ -7,10 +7,10 @@ use crate::Handler;
 use crate::HeldMarks;
 use crate::Report;
 use crate::Transaction;
-use rules::Fixed;
-use rules::Marks;
-use rules::State;
-use rules::TransactionStep;
+use types::Fixed;
+use types::Marks;
+use types::State;
+use types::TransactionStep;
 
 fn step_no(step: TransactionStep) -> u8
     ensures { λ r. ⌜ r ≡ stepNo step ⌝ }
@@ -30,12 +30,12 @@ fn fixed_stored(f: Fixed) -> Transaction
     ensures { λ r. ⌜ r ≡ fixedStored f ⌝ }
 {
     let h = f.head;
-    let unacknowledged = basis::bit_of(h.unacknowledged);
-    let crc = basis::bit_of(h.crc);
-    let large = basis::bit_of(h.large);
-    let closure = basis::bit_of(f.closure);
-    let eofsent = basis::bit_of(f.eofsent);
-    let finished = basis::bit_of(f.finished);
+    let unacknowledged = fields::bit_of(h.unacknowledged);
+    let crc = fields::bit_of(h.crc);
+    let large = fields::bit_of(h.large);
+    let closure = fields::bit_of(f.closure);
+    let eofsent = fields::bit_of(f.eofsent);
+    let finished = fields::bit_of(f.finished);
     let source = h.source;
     let number = h.number;
     let destination = h.destination;
@@ -61,8 +61,8 @@ fn fixed_stored(f: Fixed) -> Transaction
 fn marks_stored(m: Marks) -> HeldMarks
     ensures { λ r. ⌜ r ≡ marksStored m ⌝ }
 {
-    let cancelled = basis::bit_of(m.cancelled);
-    let owed = basis::bit_of(m.owed);
+    let cancelled = fields::bit_of(m.cancelled);
+    let owed = fields::bit_of(m.owed);
     let finished = m.finished;
     HeldMarks {
         cancelled: cancelled,

@@ -7,16 +7,16 @@ use crate::Handler;
 use crate::HeldMarks;
 use crate::Remote;
 use crate::Transaction;
-use rules::Choice;
-use rules::EntityId;
-use rules::Fixed;
-use rules::Head;
-use rules::LocalEntityConfig;
-use rules::Marks;
-use rules::PutRequest;
-use rules::RemoteEntityConfig;
-use rules::State;
-use rules::TransactionStep;
+use types::Choice;
+use types::EntityId;
+use types::Fixed;
+use types::Head;
+use types::LocalEntityConfig;
+use types::Marks;
+use types::PutRequest;
+use types::RemoteEntityConfig;
+use types::State;
+use types::TransactionStep;
 
 pub fn flag_of(x: u8) -> bool
     ensures { λ r. ⌜ r ≡ flagOf x ⌝ }

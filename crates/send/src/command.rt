@@ -6,15 +6,15 @@ use crate::run::Output;
 use crate::run::Pass;
 use libc::STDOUT_FILENO;
 use pdu_read_header::field::part_of;
-use rules::Answer;
-use rules::Done;
-use rules::State;
 use send_say::tell;
 use send_words::Taken;
 use send_words::Words;
 use send_words::defaults;
 use send_words::list::is;
 use send_words::with_word;
+use types::Answer;
+use types::Done;
+use types::State;
 
 // ---- words
 

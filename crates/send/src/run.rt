@@ -2,17 +2,6 @@
 // step that emits nothing; with a limit, and no answer left, such a step is made again with the timer expired.
 ghost use Prim.Native.Nat.{_<_};
 use pdu_read_header::field::part_of;
-use rules::Answer;
-use rules::Choice;
-use rules::EntityId;
-use rules::Events;
-use rules::LocalEntityConfig;
-use rules::PutRequest;
-use rules::Refusal;
-use rules::RemoteEntityConfig;
-use rules::State;
-use rules::Stepped;
-use rules::TransactionSeqNum;
 use send_say::pdu::Sum;
 use send_say::pdu::plus;
 use send_say::pdu::received;
@@ -26,6 +15,17 @@ use send_text::text::hex_line;
 use send_text::text::text;
 use send_words::Words;
 use source_state::is_idle;
+use types::Answer;
+use types::Choice;
+use types::EntityId;
+use types::Events;
+use types::LocalEntityConfig;
+use types::PutRequest;
+use types::Refusal;
+use types::RemoteEntityConfig;
+use types::State;
+use types::Stepped;
+use types::TransactionSeqNum;
 
 // Where PDUs go and in which form (0 framed, 1 hex, 2 hex with its meaning), and whether the timer expires.
 pub struct Output {
@@ -96,7 +96,7 @@ pub fn first(w: Words) -> State {
 fn frame_length(s: &[u8], at: usize) -> usize
     ensures { λ r. ⌜ r < 65536 ⌝ }
 {
-    (basis::num_at(s, at, 2) % 65536) as usize
+    (fields::num_at(s, at, 2) % 65536) as usize
 }
 
 // A place n bytes further; the answers are shorter than a million bytes.
@@ -173,7 +173,7 @@ fn counted(t: Tally, pdu: &[u8], repair: bool) -> Tally {
     let mut v = t;
     v.pdus = plus(t.pdus, 1);
     v.bytes = plus(t.bytes, pdu.len() as u64);
-    v.repairs = plus(t.repairs, basis::bit_of(repair) as u64);
+    v.repairs = plus(t.repairs, fields::bit_of(repair) as u64);
     match sum_of(pdu) {
         Sum::NoEof => v,
         Sum::Of(sum) => {

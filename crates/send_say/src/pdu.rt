@@ -5,10 +5,6 @@ use pdu_read_header::field::byte_at;
 use pdu_read_header::field::part_of;
 use pdu_read_header::field::size_width;
 use pdu_read_header::read_header;
-use rules::Body;
-use rules::Frame;
-use rules::Framed;
-use rules::Meaning;
 use send_text::code::condition;
 use send_text::code::finished;
 use send_text::nak::nak;
@@ -18,6 +14,10 @@ use send_text::text::name;
 use send_text::text::numbers;
 use send_text::text::on;
 use send_text::text::text;
+use types::Body;
+use types::Frame;
+use types::Framed;
+use types::Meaning;
 
 // The sum, or the largest number there is.
 pub fn plus(a: u64, b: u64) -> u64 {
@@ -37,7 +37,7 @@ fn none(out: &mut [u8], at: usize, n: usize) -> usize {
 // Each from the place where its body starts on; w is the width of a size.
 
 fn file_data(out: &mut [u8], at: usize, pdu: &[u8], start: usize, w: usize, end: usize) -> usize {
-    let offset = basis::num_at(pdu, start, w);
+    let offset = fields::num_at(pdu, start, w);
     let n = up_to(on(start, w), end);
     numbers(out, at, b"File data #..#", offset, plus(offset, n as u64))
 }
@@ -58,15 +58,15 @@ fn names(out: &mut [u8], at: usize, pdu: &[u8], first: usize) -> usize {
 fn metadata(out: &mut [u8], at: usize, pdu: &[u8], start: usize, w: usize) -> usize {
     let p = text(out, at, b"Metadata \"");
     let q = names(out, p, pdu, on(on(start, 2), w));
-    let size = basis::num_at(pdu, on(start, 2), w);
+    let size = fields::num_at(pdu, on(start, 2), w);
     numbers(out, q, b"\", # bytes", size, 0)
 }
 
 fn eof(out: &mut [u8], at: usize, pdu: &[u8], start: usize, w: usize) -> usize {
     let p = condition(out, at, b"EOF ", byte_at(pdu, on(start, 1)) / 16);
-    let size = basis::num_at(pdu, on(start, 6), w);
+    let size = fields::num_at(pdu, on(start, 6), w);
     let q = numbers(out, p, b", # bytes, checksum ", size, 0);
-    hex(out, q, basis::num_at(pdu, on(start, 2), 4), 8)
+    hex(out, q, fields::num_at(pdu, on(start, 2), 4), 8)
 }
 
 fn ack(out: &mut [u8], at: usize, pdu: &[u8], start: usize) -> usize {
@@ -125,7 +125,7 @@ pub fn sum_of(pdu: &[u8]) -> Sum {
                 return Sum::NoEof;
             }
             if byte_at(pdu, start) == 4 {
-                return Sum::Of(basis::num_at(pdu, on(start, 2), 4));
+                return Sum::Of(fields::num_at(pdu, on(start, 2), 4));
             }
             Sum::NoEof
         }

@@ -1,17 +1,17 @@
 // Lines to standard error: what is wrong, how far the pass is, what came of it. Each is put together first and written by one call.
 use libc::STDERR_FILENO;
 use pdu_read_header::field::part_of;
-use rules::Events;
-use rules::FaultEvent;
-use rules::FinishedEvent;
-use rules::FinishedParams;
-use rules::Refusal;
-use rules::TransactionStep;
 use send_text::code;
 use send_text::text::hex;
 use send_text::text::listed;
 use send_text::text::numbers;
 use send_text::text::text;
+use types::Events;
+use types::FaultEvent;
+use types::FinishedEvent;
+use types::FinishedParams;
+use types::Refusal;
+use types::TransactionStep;
 
 // What has left so far; the checksum is that of the last EOF.
 pub struct Tally {
@@ -86,7 +86,7 @@ fn action(out: &mut [u8], at: usize, a: u8) -> usize {
         out,
         at,
         b"abandon\n;cancel\n;abandon\n;ignore\n;abandon\n;",
-        basis::lesser(a as usize, 4),
+        fields::lesser(a as usize, 4),
     )
 }
 

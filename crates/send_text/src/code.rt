@@ -2,10 +2,10 @@
 // that has it.
 use crate::text::listed;
 use crate::text::text;
-use basis::lesser;
-use rules::Answer;
-use rules::FinishedParams;
-use rules::Refusal;
+use fields::lesser;
+use types::Answer;
+use types::FinishedParams;
+use types::Refusal;
 
 pub fn condition(out: &mut [u8], at: usize, before: &[u8], c: u8) -> usize {
     let p = text(out, at, before);

@@ -3,11 +3,11 @@ use crate::text::listed;
 use crate::text::numbers;
 use crate::text::on;
 use crate::text::text;
-use basis::lesser;
-use pdu_read::nak::request_at;
-use rules::SegmentRequest;
+use fields::lesser;
+use pdu_read_nak::request_at;
 use source_nak::next_pair;
 use source_queue::is_metadata;
+use types::SegmentRequest;
 
 fn request(out: &mut [u8], at: usize, r: SegmentRequest) -> usize {
     if is_metadata(r) {

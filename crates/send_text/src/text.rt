@@ -10,7 +10,7 @@ pub fn text(out: &mut [u8], at: usize, s: &[u8]) -> usize {
     if out.len() - at < s.len() {
         return at;
     }
-    basis::put_bytes(out, at, s)
+    fields::put_bytes(out, at, s)
 }
 
 // Text number n of a list.
@@ -78,7 +78,7 @@ pub fn hex_bytes(out: &mut [u8], at: usize, s: &[u8]) -> usize {
     let mut p = at;
     let mut i = 0;
     while i < s.len() {
-        let b = basis::wide(s[i]);
+        let b = fields::wide(s[i]);
         p = put(out, p, digit(b / 16));
         p = put(out, p, digit(b % 16));
         i += 1;

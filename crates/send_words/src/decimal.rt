@@ -23,7 +23,7 @@ fn digit(b: u8) -> u64
     if b < b'0' {
         return 0;
     }
-    basis::wide(b - b'0')
+    fields::wide(b - b'0')
 }
 
 // The value v with the digit d behind it, where that is below 2^64.

@@ -4,16 +4,16 @@
 ghost use mathlib.Core.Path.{_≡_};
 ghost use Rattle.rules.specs.Calls.{PutMeets, DeliverMeets, StepMeets, CancelMeets, ResetMeets, NewMeets};
 ghost use Rattle.rules.specs.Refusals.{refusalNo, answerNo};
-use rules::Answer;
-use rules::Cancelled;
-use rules::Done;
-use rules::EntityId;
-use rules::LocalEntityConfig;
-use rules::PutRequest;
-use rules::Refusal;
-use rules::State;
-use rules::Stepped;
-use rules::TransactionSeqNum;
+use types::Answer;
+use types::Cancelled;
+use types::Done;
+use types::EntityId;
+use types::LocalEntityConfig;
+use types::PutRequest;
+use types::Refusal;
+use types::State;
+use types::Stepped;
+use types::TransactionSeqNum;
 
 // A handler whose first put takes this number.
 pub fn new(number: TransactionSeqNum) -> State

@@ -4,14 +4,14 @@ use Prim.Native.Nat.{ℕ, _+_, _<_}
 use Rattle.rules.specs.States.{withQueue, withMarks, counted, noEof, idle}
 use Rattle.rules.specs.Queues.{served}
 use Rattle.rules.specs.Step.{afterCancelEof, afterMetadata, afterData, afterEof, faultMarked, eventsOf}
-use Rattle.rules.specs.declared.Eof.{Eof}
-use Rattle.rules.specs.declared.State.{State}
-use Rattle.rules.specs.declared.Due.{Due}
-use Rattle.rules.specs.declared.Due.the-variants.{CancelEof, Repair, Metadata, Data, NoErrorEof, EofAgain, FaultCancel, FaultIgnore, FaultAbandon, Close, Nothing}
-use Rattle.rules.specs.declared.Answer.the-variants.{Accepted}
-use Rattle.rules.specs.declared.Stepped.{Stepped}
-use Rattle.rules.specs.declared.Sending.{Sending}
-use Rattle.rules.specs.declared.Sending.the-variants.{Nothing as NoPdu, Metadata as MetadataPdu, FileData, Eof as EofPdu, AckFinished}
+use Rattle.types.specs.declared.Eof.{Eof}
+use Rattle.types.specs.declared.State.{State}
+use Rattle.types.specs.declared.Due.{Due}
+use Rattle.types.specs.declared.Due.the-variants.{CancelEof, Repair, Metadata, Data, NoErrorEof, EofAgain, FaultCancel, FaultIgnore, FaultAbandon, Close, Nothing}
+use Rattle.types.specs.declared.Answer.the-variants.{Accepted}
+use Rattle.types.specs.declared.Stepped.{Stepped}
+use Rattle.types.specs.declared.Sending.{Sending}
+use Rattle.types.specs.declared.Sending.the-variants.{Nothing as NoPdu, Metadata as MetadataPdu, FileData, Eof as EofPdu, AckFinished}
 
 -- the EOF in a PDU
 abbrev pub eofIn : Sending → Eof

@@ -1,11 +1,11 @@
 // The state after each case of a step. The numbers are those of document 01's list.
-use rules::Due;
-use rules::Eof;
-use rules::Sending;
-use rules::State;
-use rules::TransactionStep;
 use source_sending::next_length;
 use source_state::no_eof;
+use types::Due;
+use types::Eof;
+use types::Sending;
+use types::State;
+use types::TransactionStep;
 ghost use mathlib.Core.Path.{_≡_};
 ghost use Prim.Native.Nat.{_+_, _<_};
 ghost use Rattle.rules.specs.States.{withQueue, withMarks, counted};

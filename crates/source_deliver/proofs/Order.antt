@@ -8,13 +8,13 @@ use Rattle.basis.specs.Pick.{pick}
 use Rattle.basis.proofs.Pick.{pick-t, pick-f}
 use Rattle.rules.specs.States.{isIdle}
 use Rattle.rules.specs.Deliver.{sameTransaction, verdictOf, byVerdict, heard, refused}
-use Rattle.rules.specs.declared.Done.{Done}
-use Rattle.rules.specs.declared.Frame.{Frame}
-use Rattle.rules.specs.declared.State.{State}
-use Rattle.rules.specs.declared.Meaning.{Meaning}
-use Rattle.rules.specs.declared.Verdict.{Verdict}
-use Rattle.rules.specs.declared.Verdict.the-variants.{Enqueue, Move, Refuse, NoEffect}
-use Rattle.rules.specs.declared.Refusal.the-variants.{OtherTransaction, UnexpectedPdu}
+use Rattle.types.specs.declared.Done.{Done}
+use Rattle.types.specs.declared.Frame.{Frame}
+use Rattle.types.specs.declared.State.{State}
+use Rattle.types.specs.declared.Meaning.{Meaning}
+use Rattle.types.specs.declared.Verdict.{Verdict}
+use Rattle.types.specs.declared.Verdict.the-variants.{Enqueue, Move, Refuse, NoEffect}
+use Rattle.types.specs.declared.Refusal.the-variants.{OtherTransaction, UnexpectedPdu}
 use Rattle.source_deliver.specs.Asked.{isOther, isUnexpected}
 
 -- the two tests of `isOther` over any flags

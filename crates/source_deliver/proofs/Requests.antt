@@ -7,9 +7,9 @@ use lib.ListN.{length}
 use Rattle.rules.specs.Numbers.{F}
 use Rattle.rules.specs.Reading.{requestsFrom}
 use Rattle.rules.specs.Deliver.{requestsIn, asked}
-use Rattle.rules.specs.declared.Frame.{Frame}
-use Rattle.rules.specs.declared.Meaning.{Meaning}
-use Rattle.rules.specs.declared.Meaning.the-variants.{Finished, AckOfEof, Nak, KeepAlive}
+use Rattle.types.specs.declared.Frame.{Frame}
+use Rattle.types.specs.declared.Meaning.{Meaning}
+use Rattle.types.specs.declared.Meaning.the-variants.{Finished, AckOfEof, Nak, KeepAlive}
 use Rattle.source_nak.proofs.Requests.{at-end}
 use Rattle.source_deliver.specs.Asked.{askedCount}
 

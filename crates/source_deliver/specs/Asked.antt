@@ -5,12 +5,12 @@ use Prim.Native.Nat.{ℕ}
 use Rattle.basis.specs.Pick.{pick}
 use Rattle.rules.specs.States.{isIdle}
 use Rattle.rules.specs.Deliver.{sameTransaction}
-use Rattle.rules.specs.declared.Frame.{Frame}
-use Rattle.rules.specs.declared.State.{State}
-use Rattle.rules.specs.declared.Meaning.{Meaning}
-use Rattle.rules.specs.declared.Meaning.the-variants.{Finished, AckOfEof, Nak, KeepAlive}
-use Rattle.rules.specs.declared.Verdict.{Verdict}
-use Rattle.rules.specs.declared.Verdict.the-variants.{Enqueue, Move, Refuse, NoEffect}
+use Rattle.types.specs.declared.Frame.{Frame}
+use Rattle.types.specs.declared.State.{State}
+use Rattle.types.specs.declared.Meaning.{Meaning}
+use Rattle.types.specs.declared.Meaning.the-variants.{Finished, AckOfEof, Nak, KeepAlive}
+use Rattle.types.specs.declared.Verdict.{Verdict}
+use Rattle.types.specs.declared.Verdict.the-variants.{Enqueue, Move, Refuse, NoEffect}
 
 -- how many requests it makes: none if it is no NAK
 abbrev pub askedCount : Meaning → ℕ

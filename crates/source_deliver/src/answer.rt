@@ -1,8 +1,8 @@
 // The two answers to a delivery.
-use rules::Answer;
-use rules::Done;
-use rules::Refusal;
-use rules::State;
+use types::Answer;
+use types::Done;
+use types::Refusal;
+use types::State;
 ghost use mathlib.Core.Path.{_≡_};
 ghost use Rattle.rules.specs.Deliver.{refused as refusedIs, accepted as acceptedIs};
 

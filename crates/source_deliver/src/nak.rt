@@ -1,15 +1,15 @@
 // A NAK is taken whole or refused whole. Its requests are read from the delivered bytes, once for each question; nothing is copied.
 use crate::answer::accepted;
 use crate::answer::refused;
-use rules::Done;
-use rules::Frame;
-use rules::Refusal;
-use rules::State;
 use source_nak::any_invalid;
 use source_nak::next_pair;
 use source_nak::owing_count;
 use source_nak::push_all;
 use source_queue::free;
+use types::Done;
+use types::Frame;
+use types::Refusal;
+use types::State;
 ghost use mathlib.Core.Path.{_≡_};
 ghost use Prim.Native.Nat.{_+_, min};
 ghost use Rattle.rules.specs.Numbers.{F};

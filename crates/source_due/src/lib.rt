@@ -1,8 +1,8 @@
 // What is due: "A step does the first that applies". The numbers are those of document 01's list.
-use basis::wide;
-use rules::Due;
-use rules::State;
-use rules::TransactionStep;
+use fields::wide;
+use types::Due;
+use types::State;
+use types::TransactionStep;
 ghost use mathlib.Core.Path.{_≡_};
 ghost use mathlib.Core.Bool.{true};
 ghost use Prim.Native.Nat.{_+_, _<_};

@@ -11,7 +11,7 @@ use Rattle.basis.specs.Bytes.{part}
 use Rattle.basis.specs.Laid.{inFront}
 use Rattle.basis.proofs.Bytes.{part-min}
 use Rattle.rules.specs.Layout.{writtenOf}
-use Rattle.rules.specs.declared.Written.the-variants.{Wrote}
+use Rattle.types.specs.declared.Written.the-variants.{Wrote}
 
 -- no PDU: nothing is written
 pub none-written : (out : List ℕ) → Wrote 0 ≡ writtenOf [] out

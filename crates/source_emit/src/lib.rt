@@ -1,14 +1,14 @@
 // The PDU due becomes bytes in front of the out buffer.
-use basis::lesser;
+use fields::lesser;
 use pdu::ack::write_ack_finished;
 use pdu::eof::write_eof;
 use pdu::file_data::write_file_data;
 use pdu_metadata::write_metadata;
-use rules::Head;
-use rules::Names;
-use rules::Sending;
-use rules::State;
-use rules::Written;
+use types::Head;
+use types::Names;
+use types::Sending;
+use types::State;
+use types::Written;
 ghost use mathlib.Core.Path.{_≡_};
 ghost use lib.ListN.{take, drop};
 ghost use Rattle.basis.specs.Laid.{inFront};

@@ -1,18 +1,18 @@
 // The events of each case, one record in their fixed order.
-use rules::Due;
-use rules::Events;
-use rules::FaultEvent;
-use rules::FinishedEvent;
-use rules::FinishedParams;
-use rules::State;
-use rules::TimerEvent;
-use rules::TransactionId;
+use types::Due;
+use types::Events;
+use types::FaultEvent;
+use types::FinishedEvent;
+use types::FinishedParams;
+use types::State;
+use types::TimerEvent;
+use types::TransactionId;
 ghost use mathlib.Core.Path.{_≡_};
 ghost use mathlib.Core.Bool.{false};
 ghost use Rattle.rules.specs.Step.{events, quiet, finishedIf, ackTimer, eofTimer, eofFinished, eventsOf};
-ghost use Rattle.rules.specs.declared.FaultEvent.the-variants.{NoFault, Fault};
-ghost use Rattle.rules.specs.declared.FinishedEvent.the-variants.{NotFinished};
-ghost use Rattle.rules.specs.declared.TimerEvent.the-variants.{NoTimer};
+ghost use Rattle.types.specs.declared.FaultEvent.the-variants.{NoFault, Fault};
+ghost use Rattle.types.specs.declared.FinishedEvent.the-variants.{NotFinished};
+ghost use Rattle.types.specs.declared.TimerEvent.the-variants.{NoTimer};
 
 fn noting(
     s: State,

@@ -16,8 +16,8 @@ use Rattle.rules.specs.Numbers.{F}
 use Rattle.rules.specs.States.{blank}
 use Rattle.rules.specs.Reading.{requestAt, requestsFrom}
 use Rattle.rules.specs.Queues.{owes, invalid, anyInvalid, owing, pushOwed, pushAll}
-use Rattle.rules.specs.declared.SegmentRequest.{SegmentRequest}
-use Rattle.rules.specs.declared.Queue.{Queue}
+use Rattle.types.specs.declared.SegmentRequest.{SegmentRequest}
+use Rattle.types.specs.declared.Queue.{Queue}
 
 module _ (large : Bool) (s : List ℕ) where
   request-past : (i : ℕ) → length s ≤ i → requestAt large s i ≡ blank

@@ -1,11 +1,11 @@
 // The requests of a NAK, read from the delivered bytes one pair after another. A pair past the end is (0, 0) wherever it stands, so a
 // place that would lie behind the end stays at it.
-use basis::bit_of;
-use pdu_read::nak::request_from;
-use rules::Queue;
+use fields::bit_of;
+use pdu_read_nak::request_from;
 use source_queue::invalid;
 use source_queue::owes;
 use source_queue::push_owed;
+use types::Queue;
 ghost use mathlib.Core.Path.{_≡_};
 ghost use Prim.Native.Nat.{_+_, min};
 ghost use Rattle.rules.specs.Numbers.{F};

@@ -1,5 +1,5 @@
 // Names copied into the state.
-use rules::Names;
+use types::Names;
 ghost use mathlib.Core.Path.{_≡_};
 ghost use mathlib.Core.List.{_++_};
 ghost use Prim.Native.Nat.{_-_, _≤_};

@@ -11,15 +11,15 @@ use Rattle.basis.proofs.Pick.{pick-t}
 use Rattle.rules.specs.Numbers.{goodWidth, fits}
 use Rattle.rules.specs.States.{isIdle}
 use Rattle.rules.specs.Put.{idsFit, isFound, entryOf, headOf, entryAnswer, putAnswer}
-use Rattle.rules.specs.declared.State.{State}
-use Rattle.rules.specs.declared.EntityId.{EntityId}
-use Rattle.rules.specs.declared.TransactionSeqNum.{TransactionSeqNum}
-use Rattle.rules.specs.declared.LocalEntityConfig.{LocalEntityConfig}
-use Rattle.rules.specs.declared.PutRequest.{PutRequest}
-use Rattle.rules.specs.declared.Refusal.{Refusal}
-use Rattle.rules.specs.declared.Refusal.the-variants.{AlreadyBusy, BadIdWidth, NoRemoteCfgFound}
-use Rattle.rules.specs.declared.Answer.{Answer}
-use Rattle.rules.specs.declared.Answer.the-variants.{Accepted, Refused}
+use Rattle.types.specs.declared.State.{State}
+use Rattle.types.specs.declared.EntityId.{EntityId}
+use Rattle.types.specs.declared.TransactionSeqNum.{TransactionSeqNum}
+use Rattle.types.specs.declared.LocalEntityConfig.{LocalEntityConfig}
+use Rattle.types.specs.declared.PutRequest.{PutRequest}
+use Rattle.types.specs.declared.Refusal.{Refusal}
+use Rattle.types.specs.declared.Refusal.the-variants.{AlreadyBusy, BadIdWidth, NoRemoteCfgFound}
+use Rattle.types.specs.declared.Answer.{Answer}
+use Rattle.types.specs.declared.Answer.the-variants.{Accepted, Refused}
 
 -- a test that a refusal hangs on
 passed : (b : Bool) (a : Answer) (r : Refusal) → pick b a (Refused r) ≡ Accepted → (b ≡ true) × (a ≡ Accepted)

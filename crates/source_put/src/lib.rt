@@ -1,20 +1,19 @@
 // Put: refusals 1 to 8 in checking order, or the state anew. Any state, configuration and request is taken; a refusal changes nothing.
-mod start;
 
-use rules::Answer;
-use rules::Done;
-use rules::LocalEntityConfig;
-use rules::PutRequest;
-use rules::Refusal;
-use rules::State;
-use source_config::config::entry_of;
-use source_config::config::ids_fit;
-use source_config::config::is_found;
+use source_config::entry_of;
+use source_config::ids_fit;
+use source_config::is_found;
 use source_names::names_of;
-use start::entry_answer;
-use start::fixed_of;
-use start::head_of;
-use start::started;
+use source_start::entry_answer;
+use source_start::fixed_of;
+use source_start::head_of;
+use source_start::started;
+use types::Answer;
+use types::Done;
+use types::LocalEntityConfig;
+use types::PutRequest;
+use types::Refusal;
+use types::State;
 ghost use mathlib.Core.Path.{_≡_};
 ghost use mathlib.Core.Bool.{true};
 ghost use Rattle.rules.specs.Numbers.{goodWidth};

@@ -1,6 +1,6 @@
 // Pending requests: 64 places, the oldest in front. Served places are free again.
-use rules::Queue;
-use rules::SegmentRequest;
+use types::Queue;
+use types::SegmentRequest;
 ghost use mathlib.Core.Path.{_≡_};
 ghost use mathlib.Core.List.{[], _∷_, _++_};
 ghost use Prim.Native.Nat.{_-_};

@@ -1,10 +1,10 @@
 // The PDU of each case.
 use checksum::sum_of;
-use rules::Due;
-use rules::Eof;
-use rules::SegmentRequest;
-use rules::Sending;
-use rules::State;
+use types::Due;
+use types::Eof;
+use types::SegmentRequest;
+use types::Sending;
+use types::State;
 ghost use mathlib.Core.Path.{_≡_};
 ghost use Rattle.rules.specs.Step.{eofFor, cancelEof, repairOf, nextLength, closing, sendingOf};
 

@@ -11,17 +11,17 @@ use borrow.Author.Tests.{leb-false}
 use Rattle.basis.proofs.Pick.{cases}
 use Rattle.rules.specs.Layout.{writtenOf}
 use Rattle.rules.specs.Step.{actionFor, faultDue, ackExpired, checkExpired, dueAt, eofOwed, dueOf, sendingOf, bytesFor, afterOf, eventsOf, refusedStep, made}
-use Rattle.rules.specs.declared.State.{State}
-use Rattle.rules.specs.declared.TransactionStep.{TransactionStep}
-use Rattle.rules.specs.declared.TransactionStep.the-variants.{Idle, SendingMetadata, SendingFileData, SendingEof, WaitingForEofAck, WaitingForFinished, Closing}
-use Rattle.rules.specs.declared.Due.{Due}
-use Rattle.rules.specs.declared.Due.the-variants.{CancelEof, Repair, Metadata, Data, NoErrorEof, EofAgain, FaultCancel, FaultIgnore, FaultAbandon, Close, Nothing}
-use Rattle.rules.specs.declared.Sending.{Sending}
-use Rattle.rules.specs.declared.Stepped.{Stepped}
-use Rattle.rules.specs.declared.Written.{Written}
-use Rattle.rules.specs.declared.Written.the-variants.{Short, Wrote}
-use Rattle.rules.specs.declared.Refusal.the-variants.{OutTooSmall}
-use Rattle.rules.specs.declared.Answer.the-variants.{Accepted}
+use Rattle.types.specs.declared.State.{State}
+use Rattle.types.specs.declared.TransactionStep.{TransactionStep}
+use Rattle.types.specs.declared.TransactionStep.the-variants.{Idle, SendingMetadata, SendingFileData, SendingEof, WaitingForEofAck, WaitingForFinished, Closing}
+use Rattle.types.specs.declared.Due.{Due}
+use Rattle.types.specs.declared.Due.the-variants.{CancelEof, Repair, Metadata, Data, NoErrorEof, EofAgain, FaultCancel, FaultIgnore, FaultAbandon, Close, Nothing}
+use Rattle.types.specs.declared.Sending.{Sending}
+use Rattle.types.specs.declared.Stepped.{Stepped}
+use Rattle.types.specs.declared.Written.{Written}
+use Rattle.types.specs.declared.Written.the-variants.{Short, Wrote}
+use Rattle.types.specs.declared.Refusal.the-variants.{OutTooSmall}
+use Rattle.types.specs.declared.Answer.the-variants.{Accepted}
 use Rattle.source_step.proofs.Written.{on-short, on-wrote}
 use Rattle.source_after.specs.Once.{eofIn, afterWith, acceptedStep, Countable}
 

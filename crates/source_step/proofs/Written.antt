@@ -9,8 +9,8 @@ use lib.Dec.{ltb}
 use lib.ListN.{length}
 use Rattle.basis.specs.Pick.{pick}
 use Rattle.rules.specs.Layout.{writtenOf}
-use Rattle.rules.specs.declared.Written.{Written}
-use Rattle.rules.specs.declared.Written.the-variants.{Short, Wrote}
+use Rattle.types.specs.declared.Written.{Written}
+use Rattle.types.specs.declared.Written.the-variants.{Short, Wrote}
 
 -- Short: the branch for a buffer that is too small
 short : {A : Type 0} (b : Bool) (n : ℕ) (x y : A) → Short ≡ pick b Short (Wrote n) → x ≡ pick b x y

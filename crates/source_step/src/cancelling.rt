@@ -1,8 +1,8 @@
 // Whether a user's cancel is taken.
-use rules::EntityId;
-use rules::State;
-use rules::TransactionSeqNum;
-use rules::TransactionStep;
+use types::EntityId;
+use types::State;
+use types::TransactionSeqNum;
+use types::TransactionStep;
 ghost use mathlib.Core.Path.{_≡_};
 ghost use Rattle.rules.specs.Cancel.{canCancel, mayCancel};
 

@@ -2,16 +2,16 @@
 // A step decides what is due, then has its PDU written, and only then makes the new state, so that a refusal changes nothing.
 mod cancelling;
 
-use rules::Answer;
-use rules::Cancelled;
-use rules::Due;
-use rules::EntityId;
-use rules::Refusal;
-use rules::Sending;
-use rules::State;
-use rules::Stepped;
-use rules::TransactionSeqNum;
-use rules::Written;
+use types::Answer;
+use types::Cancelled;
+use types::Due;
+use types::EntityId;
+use types::Refusal;
+use types::Sending;
+use types::State;
+use types::Stepped;
+use types::TransactionSeqNum;
+use types::Written;
 ghost use mathlib.Core.Path.{_≡_};
 ghost use lib.ListN.{length};
 ghost use Rattle.basis.specs.Laid.{inFront};

@@ -8,8 +8,8 @@ use native.Mathlib.Omega.{arith}
 use borrow.Author.Tests.{lt-ltb, le-ltb}
 use lib.ListN.{length, getD, drop}
 use lib.Seq.{drop-cons}
-use Rattle.rules.specs.Utf8.{Range, _to_, OneOf, Due, wants, broken, forms, begun, onward, dueAfter}
-use Rattle.rules.proofs.Utf8.{begun-form}
+use Rattle.rules_leaves.specs.Utf8.{Range, _to_, OneOf, Due, wants, broken, forms, begun, onward, dueAfter}
+use Rattle.rules_leaves.proofs.Utf8.{begun-form}
 
 pub due-step : (d : Due) (s : List ℕ) (i : ℕ) → i < length s → dueAfter (onward d (getD s i 0)) (drop (i + 1) s) ≡ dueAfter d (drop i s)
 due-step d s i h = rw (add-one, drop-cons s i 0)

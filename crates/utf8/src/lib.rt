@@ -2,7 +2,7 @@
 // and each step is proved to be the grammar's.
 ghost use mathlib.Core.Path.{_≡_};
 ghost use Rattle.basis.specs.Pick.{pick};
-ghost use Rattle.rules.specs.Utf8.{_to_, forms, within, broken, begun, onward, complete, isUtf8};
+ghost use Rattle.rules_leaves.specs.Utf8.{_to_, forms, within, broken, begun, onward, complete, isUtf8};
 ghost use Rattle.utf8.specs.Meant.{meant};
 
 // What is due: a character or the end; so many tails; the narrower second byte after E0, ED, F0 or F4, and its tails. After Broken, nothing helps.

@@ -1,12 +1,12 @@
 // A decoder of its own for what the writers wrote: no code of the readers or writers is used, and CRC-16 goes by a byte-wise formula.
 ghost use Prim.Native.Nat.{_≤_, _<_};
-use rules::Head;
+use types::Head;
 
 fn at(b: &[u8], i: usize) -> u64
     ensures { λ r. ⌜ r < 256 ⌝ }
 {
     if i < b.len() {
-        return basis::wide(b[i]);
+        return fields::wide(b[i]);
     }
     0
 }
@@ -158,7 +158,7 @@ pub fn body_run(b: &[u8], h: Head, i: usize, run: &[u8]) -> bool {
     let p = header_length(h) + i;
     let mut k = 0;
     while k < run.len() {
-        if at(b, p + k) != basis::wide(run[k]) {
+        if at(b, p + k) != fields::wide(run[k]) {
             return false;
         }
         k += 1;

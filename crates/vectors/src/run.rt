@@ -3,13 +3,13 @@ use crate::decoder;
 use crate::take;
 use pdu_read_header::field::byte_at;
 use pdu_read_header::field::part_of;
-use rules::Body;
-use rules::Checksum;
-use rules::Frame;
-use rules::Framed;
-use rules::Head;
-use rules::Meaning;
-use rules::Written;
+use types::Body;
+use types::Checksum;
+use types::Frame;
+use types::Framed;
+use types::Head;
+use types::Meaning;
+use types::Written;
 
 // Whether a vector agrees, and where the next one begins.
 pub struct Ran {
@@ -41,11 +41,11 @@ fn sum_agrees(got: Checksum, known: bool, want: u64) -> bool {
 
 fn sum_vector(s: &[u8], at: usize) -> Ran {
     let kind = byte_at(s, at);
-    let n = (basis::num_at(s, take::on(at, 1), 4) % 4294967296) as usize;
+    let n = (fields::num_at(s, take::on(at, 1), 4) % 4294967296) as usize;
     let file = take::blob(s, take::on(at, 5));
     let e = take::past(s, take::on(at, 5));
     let known = byte_at(s, e) == 1;
-    let want = basis::num_at(s, take::on(e, 1), 4);
+    let want = fields::num_at(s, take::on(e, 1), 4);
     let got = checksum::calculate_checksum(kind, file, n);
     Ran {
         ok: sum_agrees(got, known, want),
@@ -55,7 +55,7 @@ fn sum_vector(s: &[u8], at: usize) -> Ran {
 
 fn crc_vector(s: &[u8], at: usize) -> Ran {
     let e = take::past(s, at);
-    let want = basis::num_at(s, e, 2);
+    let want = fields::num_at(s, e, 2);
     let got = checksum::crc16(take::blob(s, at)) as u64;
     Ran {
         ok: got == want,
@@ -154,7 +154,7 @@ fn metadata_vector(s: &[u8], at: usize) -> Ran {
     let p = take::on(at, 27);
     let closure = byte_at(s, p) == 1;
     let kind = byte_at(s, take::on(p, 1));
-    let size = basis::num_at(s, take::on(p, 2), 8);
+    let size = fields::num_at(s, take::on(p, 2), 8);
     let p2 = take::on(p, 10);
     let source = take::blob(s, p2);
     let p3 = take::past(s, p2);
@@ -201,7 +201,7 @@ fn data_agrees(b: &[u8], h: Head, offset: u64, bytes: &[u8]) -> bool {
 fn data_vector(s: &[u8], at: usize) -> Ran {
     let h = take::head(s, at);
     let p = take::on(at, 27);
-    let offset = basis::num_at(s, p, 8);
+    let offset = fields::num_at(s, p, 8);
     let p2 = take::on(p, 8);
     let bytes = take::blob(s, p2);
     let p3 = take::past(s, p2);
@@ -250,8 +250,8 @@ fn eof_vector(s: &[u8], at: usize) -> Ran {
     let h = take::head(s, at);
     let p = take::on(at, 27);
     let condition = byte_at(s, p);
-    let sum = basis::num_at(s, take::on(p, 1), 4);
-    let size = basis::num_at(s, take::on(p, 5), 8);
+    let sum = fields::num_at(s, take::on(p, 1), 4);
+    let size = fields::num_at(s, take::on(p, 5), 8);
     let p2 = take::on(p, 13);
     let want = take::blob(s, p2);
     let next = take::past(s, p2);
@@ -324,11 +324,11 @@ fn pairs_agree(delivery: &[u8], large: bool, first: usize, s: &[u8], at: usize, 
     let mut p = first;
     let mut q = at;
     while k < n {
-        let r = pdu_read::nak::request_from(delivery, large, p);
-        if r.start != basis::num_at(s, q, 8) {
+        let r = pdu_read_nak::request_from(delivery, large, p);
+        if r.start != fields::num_at(s, q, 8) {
             return false;
         }
-        if r.end != basis::num_at(s, take::on(q, 8), 8) {
+        if r.end != fields::num_at(s, take::on(q, 8), 8) {
             return false;
         }
         p = take::on(p, 2 * width);
@@ -400,7 +400,7 @@ fn meaning_vector(delivery: &[u8], f: Frame, m: Meaning, s: &[u8], at: usize) ->
                 };
             }
             Ran {
-                ok: progress == basis::num_at(s, p, 8),
+                ok: progress == fields::num_at(s, p, 8),
                 next: take::on(p, 8),
             }
         }

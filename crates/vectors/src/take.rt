@@ -2,9 +2,9 @@
 ghost use Prim.Native.Nat.{_<_};
 use pdu_read_header::field::byte_at;
 use pdu_read_header::field::part_of;
-use rules::EntityId;
-use rules::Head;
-use rules::TransactionSeqNum;
+use types::EntityId;
+use types::Head;
+use types::TransactionSeqNum;
 
 // A place n bytes further; the stream is shorter than a million bytes.
 pub fn on(at: usize, n: usize) -> usize {
@@ -20,7 +20,7 @@ pub fn on(at: usize, n: usize) -> usize {
 pub fn length(s: &[u8], at: usize) -> usize
     ensures { λ r. ⌜ r < 65536 ⌝ }
 {
-    (basis::num_at(s, at, 2) % 65536) as usize
+    (fields::num_at(s, at, 2) % 65536) as usize
 }
 
 // A run of bytes behind its two bytes of length, and the place behind it.
@@ -44,9 +44,9 @@ pub fn head(s: &[u8], at: usize) -> Head {
     let flags = byte_at(s, at);
     let idw = byte_at(s, on(at, 1));
     let seqw = byte_at(s, on(at, 10));
-    let source = basis::num_at(s, on(at, 2), 8);
-    let number = basis::num_at(s, on(at, 11), 8);
-    let destination = basis::num_at(s, on(at, 19), 8);
+    let source = fields::num_at(s, on(at, 2), 8);
+    let number = fields::num_at(s, on(at, 11), 8);
+    let destination = fields::num_at(s, on(at, 19), 8);
     Head {
         unacknowledged: flag(flags, 1),
         crc: flag(flags, 2),

@@ -3,7 +3,7 @@
 use mathlib.Core.Path.{_≡_, _∙_}
 use Prim.Native.Nat.{_-_}
 use lib.ListN.{length, drop, drop-of-length-le}
-use Rattle.rules.specs.Checksum.{more, modularFrom, modular}
+use Rattle.rules_leaves.specs.Checksum.{more, modularFrom, modular}
 use Rattle.checksum.proofs.Words.{word-step}
 use borrow.Author.Needs.{needs}
 use Rattle.checksum.proofs.calc_modular_checksum.Statement.{statement}

@@ -1,7 +1,7 @@
 -- Each arm's number picks the definition's arm.
 -- Assumes nothing.
 use borrow.Author.Tests.{ne-eqb}
-use Rattle.rules.specs.Checksum.{reversed, checksumOf}
+use Rattle.rules_leaves.specs.Checksum.{reversed, checksumOf}
 use borrow.Author.Needs.{needs}
 use Rattle.checksum.proofs.checksum_of.Statement.{statement}
 use Rattle.checksum.proofs.checksum_of.Tie as tie

@@ -5,7 +5,7 @@ use Prim.Native.Nat.{ℕ, _-_}
 use native.Mathlib.Numerals.{add-one}
 use lib.ListN.{length, drop, drop-of-length-le}
 use lib.Seq.{drop-cons}
-use Rattle.rules.specs.Checksum.{crc16, crc16From}
+use Rattle.rules_leaves.specs.Checksum.{crc16, crc16From}
 use borrow.Author.Needs.{needs}
 use Rattle.checksum.proofs.crc16.Statement.{statement}
 use Rattle.checksum.proofs.crc16.Tie as tie

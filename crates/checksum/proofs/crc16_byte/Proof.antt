@@ -1,6 +1,6 @@
 -- One byte is eight bits, by congruence.
 -- Assumes nothing.
-use Rattle.rules.specs.Checksum.{crc16Byte}
+use Rattle.rules_leaves.specs.Checksum.{crc16Byte}
 use borrow.Author.Needs.{needs}
 use Rattle.checksum.proofs.crc16_byte.Statement.{statement}
 use Rattle.checksum.proofs.crc16_byte.Tie as tie

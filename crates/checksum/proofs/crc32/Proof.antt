@@ -1,7 +1,7 @@
 -- The polynomial reversed twice is itself, so the code's CRC is that of the polynomial.
 -- Assumes nothing.
 use native.Mathlib.Omega.{arith}
-use Rattle.rules.proofs.Sums.{crc32-reversed}
+use Rattle.rules_leaves.proofs.Sums.{crc32-reversed}
 use borrow.Author.Needs.{needs}
 use Rattle.checksum.proofs.crc32.Statement.{statement}
 use Rattle.checksum.proofs.crc32.Tie as tie

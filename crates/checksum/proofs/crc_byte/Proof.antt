@@ -1,6 +1,6 @@
 -- One byte is eight bits, by congruence.
 -- Assumes nothing.
-use Rattle.rules.specs.Checksum.{crcByte}
+use Rattle.rules_leaves.specs.Checksum.{crcByte}
 use borrow.Author.Needs.{needs}
 use Rattle.checksum.proofs.crc_byte.Statement.{statement}
 use Rattle.checksum.proofs.crc_byte.Tie as tie

@@ -1,6 +1,6 @@
 -- The number in the checksum that was calculated.
 -- Assumes nothing.
-use Rattle.rules.specs.Checksum.{sumOf}
+use Rattle.rules_leaves.specs.Checksum.{sumOf}
 use borrow.Author.Needs.{needs}
 use Rattle.checksum.proofs.sum_of.Statement.{statement}
 use Rattle.checksum.proofs.sum_of.Tie as tie

@@ -7,7 +7,7 @@ use native.Mathlib.Omega.{arith}
 use lib.ListN.{length, length-drop, getD, take, drop, set}
 use Rattle.basis.proofs.Lists.{shift-more, shift-last}
 use Rattle.rules.specs.States.{blank}
-use Rattle.rules.specs.declared.SegmentRequest.{SegmentRequest}
+use Rattle.types.specs.declared.SegmentRequest.{SegmentRequest}
 use borrow.Author.Needs.{needs}
 use Rattle.source_queue.proofs.shifted.Statement.{statement}
 use Rattle.source_queue.proofs.shifted.Tie as tie

@@ -1,7 +1,7 @@
 -- The tests fall between the first ranges of the table's forms, so each return is the form that the byte begins, or none.
 -- Assumes nothing.
 use Prim.Native.Nat.{zero-le}
-use Rattle.rules.specs.Utf8.{here, there}
+use Rattle.rules_leaves.specs.Utf8.{here, there}
 use Rattle.utf8.proofs.Steps.{form-begun, none-begun}
 use borrow.Author.Needs.{needs}
 use borrow.Author.Tests.{lt-ltb, le-ltb}

@@ -4,7 +4,7 @@ use mathlib.Core.Path.{_≡_, _∙_, ap}
 use mathlib.Core.List.{[]}
 use Prim.Native.Nat.{_≤_, _-_}
 use lib.ListN.{length, drop, drop-of-length-le}
-use Rattle.rules.specs.Utf8.{wants, dueAfter, complete, isUtf8}
+use Rattle.rules_leaves.specs.Utf8.{wants, dueAfter, complete, isUtf8}
 use Rattle.utf8.specs.Meant.{meant}
 use Rattle.utf8.proofs.Steps.{due-step}
 use borrow.Author.Needs.{needs}

@@ -1,2 +1,0 @@
-pub mod Tlv
-pub mod Reader

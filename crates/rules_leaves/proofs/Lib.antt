@@ -1,0 +1,2 @@
+pub mod Utf8
+pub mod Sums

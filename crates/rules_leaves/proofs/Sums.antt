@@ -1,0 +1,190 @@
+-- Sums taken piece by piece, by induction on the first piece; that each fits its field; and a polynomial reversed twice.
+-- Assumes nothing.
+use mathlib.Core.Path.{_≡_, refl, sym, ap, _∙_}
+use mathlib.Core.Bool.{Bool}
+use mathlib.Core.List.{List, [], _∷_, _++_}
+use Prim.Native.Nat.{ℕ, zero, suc, _+_, _*_, _/_, _%_, _^_, _<_}
+use native.Mathlib.Nat.{zero-add, suc-add, add-suc, add-zero, mul-le-mul-right, two-pow-succ}
+use native.Mathlib.Omega.{arith}
+use lib.Bits.{bitXor, xor-lt}
+use lib.Dec.{eqb, ltb}
+use lib.ListN.{length}
+use Rattle.basis.specs.Pick.{pick}
+use Rattle.basis.specs.Bytes.{Bytes}
+use Rattle.basis.proofs.Pick.{cases}
+use Rattle.types.specs.declared.Checksum.{Checksum}
+use Rattle.rules_leaves.specs.Checksum.{word, more, modularFrom, modular, atPlace, modularAt, reversed, crcBit, crcBits, crcByte, crcFrom, crc32, checksumOf, sumIn, sumOf, crc16Bit, crc16Bits, crc16Byte, crc16From, crc16, Piecewise}
+
+-- ---- piece by piece
+
+more-more : (sum v w : ℕ) → more (more sum v) w ≡ more sum (v + w)
+unfolding more
+more-more sum v w = omega arith
+
+same-place : (k n b : ℕ) → atPlace (k + 4 * n) b ≡ atPlace k b
+unfolding atPlace
+same-place k n b =
+    let e : (k + 4 * n) % 4 ≡ k % 4 = omega arith in
+    rw e
+
+places : (k n sum : ℕ) (s : List ℕ) → modularAt sum (k + 4 * n) s ≡ modularAt sum k s
+places k n sum [] = refl
+places k n sum (b ∷ s) =
+    rw (same-place k n b, ← suc-add k (4 * n)) (places (suc k) n (more sum (atPlace k b)) s)
+
+-- a word's sum is its bytes' sums
+word-bytes : (sum a b c d : ℕ) → more sum (word a b c d) ≡ more (more (more (more sum (atPlace 0 a)) (atPlace 1 b)) (atPlace 2 c)) (atPlace 3 d)
+unfolding atPlace
+word-bytes sum a b c d = simp more-more (ap (more sum) (omega arith))
+
+by-bytes : (sum : ℕ) (s : List ℕ) → modularFrom sum s ≡ modularAt sum 0 s
+unfolding atPlace
+by-bytes sum [] = refl
+by-bytes sum (a ∷ []) = ap (more sum) (omega arith)
+by-bytes sum (a ∷ b ∷ []) = simp more-more (ap (more sum) (omega arith))
+by-bytes sum (a ∷ b ∷ c ∷ []) = simp more-more (ap (more sum) (omega arith))
+by-bytes sum (a ∷ b ∷ c ∷ d ∷ s) =
+    by-bytes (more sum (word a b c d)) s ∙ sym (places 0 1 (more sum (word a b c d)) s) ∙ ap (λ (v : ℕ). modularAt v 4 s) (word-bytes sum a b c d)
+
+at-append : (sum k : ℕ) (a b : List ℕ) → modularAt sum k (a ++ b) ≡ modularAt (modularAt sum k a) (k + length a) b
+at-append sum k [] b = rw add-zero
+at-append sum k (x ∷ a) b =
+    at-append (more sum (atPlace k x)) (suc k) a b
+    ∙ ap (λ (n : ℕ). modularAt (modularAt (more sum (atPlace k x)) (suc k) a) n b) (suc-add k (length a) ∙ sym (add-suc k (length a)))
+
+modular-append : (a b : List ℕ) → modular (a ++ b) ≡ modularAt (modular a) (length a) b
+unfolding modular
+modular-append a b = by-bytes 0 (a ++ b) ∙ at-append 0 0 a b ∙ rw (by-bytes 0 a, zero-add)
+
+crc-append : (p c : ℕ) (a b : List ℕ) → crcFrom p c (a ++ b) ≡ crcFrom p (crcFrom p c a) b
+crc-append p c [] b = refl
+crc-append p c (x ∷ a) b = crc-append p (crcByte p c x) a b
+
+crc16-append : (c : ℕ) (a b : List ℕ) → crc16From c (a ++ b) ≡ crc16From (crc16From c a) b
+crc16-append c [] b = refl
+crc16-append c (x ∷ a) b = crc16-append (crc16Byte c x) a b
+
+pub piecewise : Piecewise
+piecewise = (modular-append, places, crc-append, crc16-append)
+
+-- ---- a polynomial reversed twice is itself, so that code can hold it reversed
+
+-- what was behind moves up
+behind : (n p r : ℕ) → reversed n p r ≡ r * 2 ^ n + reversed n p 0
+unfolding reversed
+behind zero p r = omega arith
+behind (suc n) p r =
+    let i = behind n (p / 2) (r * 2 + p % 2) in
+    let j = behind n (p / 2) (0 * 2 + p % 2) in
+    rw (i, j, two-pow-succ n) (omega arith)
+
+-- the lowest bit becomes the highest
+lowest : (n p : ℕ) → reversed (suc n) p 0 ≡ p % 2 * 2 ^ n + reversed n (p / 2) 0
+unfolding reversed
+lowest n p = behind n (p / 2) (0 * 2 + p % 2) ∙ omega arith
+
+reversed-lt : (n p : ℕ) → reversed n p 0 < 2 ^ n
+unfolding reversed
+reversed-lt zero p = omega arith
+reversed-lt (suc n) p =
+    let i = reversed-lt n (p / 2) in
+    let m : p % 2 < 2 = omega arith in
+    rw (lowest n p, two-pow-succ n) (omega (arith, mul-le-mul-right (2 ^ n) m))
+
+-- and the highest the lowest
+highest : (n b y : ℕ) → b < 2 → y < 2 ^ n → reversed (suc n) (b * 2 ^ n + y) 0 ≡ reversed n y 0 * 2 + b
+unfolding reversed
+highest zero b y h k = omega arith
+highest (suc n) b y h k =
+    let e : (b * 2 ^ suc n + y) / 2 ≡ b * 2 ^ n + y / 2 = rw (two-pow-succ n) (omega arith) in
+    let f : (b * 2 ^ suc n + y) % 2 ≡ y % 2 = rw (two-pow-succ n) (omega arith) in
+    let g : y / 2 < 2 ^ n = omega (arith, two-pow-succ n) in
+    lowest (suc n) (b * 2 ^ suc n + y) ∙ rw (e, f, highest n b (y / 2) h g, lowest n y, two-pow-succ n) (omega arith)
+
+twice : (n p : ℕ) → p < 2 ^ n → reversed n (reversed n p 0) 0 ≡ p
+unfolding reversed
+twice zero p h = omega arith
+twice (suc n) p h =
+    let m : p % 2 < 2 = omega arith in
+    let g : p / 2 < 2 ^ n = omega (arith, two-pow-succ n) in
+    ap (λ (v : ℕ). reversed (suc n) v 0) (lowest n p) ∙ highest n (p % 2) (reversed n (p / 2) 0) m (reversed-lt n (p / 2)) ∙ rw (twice n (p / 2) g) (omega arith)
+
+pub crc32-reversed : (p : ℕ) (s : List ℕ) → p < 2 ^ 32 → bitXor (crcFrom p 0xFFFFFFFF s) 0xFFFFFFFF ≡ crc32 (reversed 32 p 0) s
+unfolding crc32
+crc32-reversed p s h = rw (twice 32 p h)
+
+-- ---- bounds
+
+-- either of two numbers below a bound
+pick-lt : (t : Bool) (a b n : ℕ) → a < n → b < n → pick t a b < n
+pick-lt t a b n h k = cases (λ (v : ℕ). v < n) t a b (λ e. h) (λ e. k)
+
+crc16Bit-lt : (c : ℕ) → crc16Bit c < 65536
+crc16Bit-lt c =
+    let m : c * 2 % 65536 < 65536 = omega arith in
+    pick-lt (ltb c 0x8000) _ _ _ m (xor-lt 16 (c * 2 % 65536) 0x1021 m (omega arith))
+
+crc16Bits-lt : (n c : ℕ) → c < 65536 → crc16Bits n c < 65536
+crc16Bits-lt zero c h = h
+crc16Bits-lt (suc n) c h = crc16Bits-lt n (crc16Bit c) (crc16Bit-lt c)
+
+crc16Byte-lt : (c b : ℕ) → crc16Byte c b < 65536
+unfolding crc16Byte
+crc16Byte-lt c b = crc16Bits-lt 7 (crc16Bit (bitXor c (b * 256))) (crc16Bit-lt (bitXor c (b * 256)))
+
+crc16From-lt : (c : ℕ) (s : List ℕ) → c < 65536 → crc16From c s < 65536
+crc16From-lt c [] h = h
+crc16From-lt c (b ∷ s) h = crc16From-lt (crc16Byte c b) s (crc16Byte-lt c b)
+
+-- a CRC-16 fits its two bytes
+pub crc16-lt : (s : List ℕ) → crc16 s < 65536
+unfolding crc16
+crc16-lt s = crc16From-lt _ s (omega arith)
+
+crcBit-lt : (p c : ℕ) → p < 2 ^ 32 → c < 2 ^ 32 → crcBit p c < 2 ^ 32
+crcBit-lt p c h k =
+    let m : c / 2 < 2 ^ 32 = omega arith in
+    pick-lt (eqb (c % 2) 1) _ _ _ (xor-lt 32 (c / 2) p m h) m
+
+crcBits-lt : (p n c : ℕ) → p < 2 ^ 32 → c < 2 ^ 32 → crcBits p n c < 2 ^ 32
+crcBits-lt p zero c h k = k
+crcBits-lt p (suc n) c h k = crcBits-lt p n (crcBit p c) h (crcBit-lt p c h k)
+
+crcByte-lt : (p c b : ℕ) → p < 2 ^ 32 → c < 2 ^ 32 → b < 256 → crcByte p c b < 2 ^ 32
+unfolding crcByte
+crcByte-lt p c b h k l = crcBits-lt p 8 (bitXor c b) h (xor-lt 32 c b k (omega arith))
+
+crcFrom-lt : (p c : ℕ) (s : List ℕ) → p < 2 ^ 32 → c < 2 ^ 32 → Bytes s → crcFrom p c s < 2 ^ 32
+crcFrom-lt p c [] h k l = k
+crcFrom-lt p c (b ∷ s) h k l = crcFrom-lt p (crcByte p c b) s h (crcByte-lt p c b h k (l .0)) (l .1)
+
+crc32-lt : (polynomial : ℕ) (s : List ℕ) → Bytes s → crc32 polynomial s < 2 ^ 32
+unfolding crc32
+crc32-lt polynomial s h =
+    let p = reversed 32 polynomial 0 in
+    xor-lt 32 (crcFrom p 0xFFFFFFFF s) 0xFFFFFFFF (crcFrom-lt p 0xFFFFFFFF s (reversed-lt 32 polynomial) (omega arith) h) (omega arith)
+
+more-lt : (sum w : ℕ) → more sum w < 2 ^ 32
+unfolding more
+more-lt sum w = omega arith
+
+modularFrom-lt : (sum : ℕ) (s : List ℕ) → sum < 2 ^ 32 → modularFrom sum s < 2 ^ 32
+modularFrom-lt sum [] h = h
+modularFrom-lt sum (a ∷ []) h = more-lt _ _
+modularFrom-lt sum (a ∷ b ∷ []) h = more-lt _ _
+modularFrom-lt sum (a ∷ b ∷ c ∷ []) h = more-lt _ _
+modularFrom-lt sum (a ∷ b ∷ c ∷ d ∷ s) h = modularFrom-lt (more sum (word a b c d)) s (more-lt _ _)
+
+modular-lt : (s : List ℕ) → modular s < 2 ^ 32
+unfolding modular
+modular-lt s = modularFrom-lt 0 s (omega arith)
+
+-- a checksum fits the four bytes of an EOF
+pub sum-lt : (type : ℕ) (s : List ℕ) → Bytes s → sumOf type s < 2 ^ 32
+unfolding sumOf checksumOf
+sum-lt type s h =
+    let P : Checksum → Type 0 = λ (x : Checksum). sumIn x < 2 ^ 32 in
+    cases P (eqb type 0) _ _ (λ e. modular-lt s)
+    (λ e. cases P (eqb type 2) _ _ (λ e. crc32-lt _ s h)
+    (λ e. cases P (eqb type 3) _ _ (λ e. crc32-lt _ s h)
+    (λ e. cases P (eqb type 15) _ _ (λ e. omega arith) (λ e. omega arith))))

@@ -1,0 +1,3 @@
+pub mod Utf8
+pub mod Checksum
+pub mod ChecksumCases
