@@ -1,9 +1,8 @@
-// A NAK is taken whole or refused whole. Its requests are read from the delivered bytes, once for each question; nothing is copied.
+// A NAK is taken whole or refused whole. Its requests are read from the delivered bytes, once to judge them and once to take them; nothing is copied.
 use crate::answer::accepted;
 use crate::answer::refused;
-use source_nak::any_invalid;
+use source_nak::judge;
 use source_nak::next_pair;
-use source_nak::owing_count;
 use source_nak::push_all;
 use source_queue::free;
 use types::Done;
@@ -36,10 +35,13 @@ fn handle_retransmission(s: State, bytes: &[u8], large: bool, at: usize, n: usiz
     if !takes_nak(s) {
         return refused(s, Refusal::UnexpectedPdu);
     }
-    if any_invalid(bytes, large, at, n, s.file.progress) {
+    let j = judge(bytes, large, at, n, s.file.progress);
+    let invalid = j.invalid;
+    let full = j.owing > free(s.queue);
+    if invalid {
         return refused(s, Refusal::InvalidNakPdu);
     }
-    if owing_count(bytes, large, at, n) > free(s.queue) {
+    if full {
         return refused(s, Refusal::RetransmitFull);
     }
     let q = push_all(s.queue, bytes, large, at, n);

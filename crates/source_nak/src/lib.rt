@@ -4,12 +4,15 @@ use fields::bit_of;
 use pdu_read_nak::request_from;
 use source_queue::invalid;
 use source_queue::owes;
-use source_queue::push_owed;
 use types::Queue;
+use types::SegmentRequest;
 ghost use mathlib.Core.Path.{_≡_};
+ghost use mathlib.Core.Bool.{true, false};
 ghost use Prim.Native.Nat.{_+_, min};
+ghost use lib.Dec.{ltb};
+ghost use Rattle.basis.specs.Pick.{pick};
 ghost use Rattle.rules.specs.Numbers.{F};
-ghost use Rattle.rules.specs.Queues.{anyInvalid, owing, pushAll};
+ghost use Rattle.rules.specs.Queues.{owes, anyInvalid, owing, pushAll};
 ghost use Rattle.rules.specs.Reading.{requestsFrom};
 
 // The place of the next pair, or the end.
@@ -26,40 +29,55 @@ pub fn next_pair(n: usize, large: bool, at: usize) -> usize
     at + w
 }
 
-// Is one of the n requests from a place on invalid?
-pub fn any_invalid(bytes: &[u8], large: bool, at: usize, n: usize, progress: u64) -> bool
-    ensures { λ r. ⌜ r ≡ anyInvalid progress (requestsFrom n large (now (bytes .entry)) at) ⌝ }
-{
-    let mut i = at;
-    let mut k = n;
-    while 0 < k {
-        let p = request_from(bytes, large, i);
-        if invalid(progress, p) {
-            return true;
-        }
-        i = next_pair(bytes.len(), large, i);
-        k -= 1;
-    }
-    false
+// What one pass over the requests finds.
+pub struct Judged {
+    // one of them is invalid
+    pub invalid: bool,
+    // so many of them owe a PDU
+    pub owing: usize,
 }
 
-// How many of them owe a PDU.
-pub fn owing_count(bytes: &[u8], large: bool, at: usize, n: usize) -> usize
-    ensures { λ r. ⌜ r ≡ owing (requestsFrom n large (now (bytes .entry)) at) ⌝ }
+fn either(a: bool, b: bool) -> bool
+    ensures { λ r. ⌜ r ≡ pick a true b ⌝ }
+{
+    if a {
+        return true;
+    }
+    b
+}
+
+// The n requests from a place on, read once.
+pub fn judge(bytes: &[u8], large: bool, at: usize, n: usize, progress: u64) -> Judged
+    ensures { λ r. ⌜ (r .invalid ≡ anyInvalid progress (requestsFrom n large (now (bytes .entry)) at)) × (r .owing ≡ owing (requestsFrom n large (now (bytes .entry)) at)) ⌝ }
 {
     let mut i = at;
     let mut k = n;
+    let mut bad = false;
     let mut m = 0;
     while 0 < k {
         let p = request_from(bytes, large, i);
+        bad = either(bad, invalid(progress, p));
         m += bit_of(owes(p)) as usize;
         i = next_pair(bytes.len(), large, i);
         k -= 1;
     }
-    m
+    Judged {
+        invalid: bad,
+        owing: m,
+    }
 }
 
-// Those that owe a PDU, behind the queue in their order.
+// A request takes a place if it owes a PDU and one is free.
+fn takes_place(count: usize, p: SegmentRequest) -> bool
+    ensures { λ r. ⌜ r ≡ pick (owes p) (ltb count 64) false ⌝ }
+{
+    if owes(p) {
+        return count < 64;
+    }
+    false
+}
+
+// Those that owe a PDU, behind the queue in their order. One store for each: the queue is not copied.
 pub fn push_all(q: Queue, bytes: &[u8], large: bool, at: usize, n: usize) -> Queue
     ensures { λ r. ⌜ r ≡ pushAll q (requestsFrom n large (now (bytes .entry)) at) ⌝ }
 {
@@ -68,7 +86,11 @@ pub fn push_all(q: Queue, bytes: &[u8], large: bool, at: usize, n: usize) -> Que
     let mut k = n;
     while 0 < k {
         let p = request_from(bytes, large, i);
-        u = push_owed(u, p);
+        let c = u.count;
+        if takes_place(c, p) {
+            u.places[c] = p;
+            u.count = c + 1;
+        }
         i = next_pair(bytes.len(), large, i);
         k -= 1;
     }

@@ -6,7 +6,7 @@ ghost use mathlib.Core.List.{[], _∷_, _++_};
 ghost use Prim.Native.Nat.{_-_};
 ghost use lib.ListN.{drop};
 ghost use Rattle.rules.specs.States.{blank};
-ghost use Rattle.rules.specs.Queues.{isMetadata, owes, invalid, free, push, pushOwed, oldest, pop, piece, served};
+ghost use Rattle.rules.specs.Queues.{isMetadata, owes, invalid, free, oldest, pop, piece, served};
 
 // ---- one request
 
@@ -68,29 +68,6 @@ pub fn free(q: Queue) -> usize
         return 0;
     }
     64 - q.count
-}
-
-// One more behind; a full queue stays as it is.
-fn push(q: Queue, p: SegmentRequest) -> Queue
-    ensures { λ r. ⌜ r ≡ push q p ⌝ }
-{
-    let at = q.count;
-    if at >= 64 {
-        return q;
-    }
-    let mut u = q;
-    u.places[at] = p;
-    u.count = at + 1;
-    u
-}
-
-pub fn push_owed(q: Queue, p: SegmentRequest) -> Queue
-    ensures { λ r. ⌜ r ≡ pushOwed q p ⌝ }
-{
-    if owes(p) {
-        return push(q, p);
-    }
-    q
 }
 
 pub fn oldest(q: Queue) -> SegmentRequest

@@ -1,9 +1,10 @@
 -- The rest of the requests pushed behind what is there gives what all of them give.
 -- Assumes nothing.
 use mathlib.Core.Path.{_≡_, sym, _∙_}
+use mathlib.Core.Logic.{⊎-elim}
 use Rattle.rules.specs.Reading.{requestsFrom}
-use Rattle.rules.specs.Queues.{pushAll}
-use Rattle.source_nak.proofs.Requests.{push-turn, push-end}
+use Rattle.rules.specs.Queues.{pushOwed, pushAll}
+use Rattle.source_nak.proofs.Requests.{room, pushed, unpushed, push-turn, push-end}
 use borrow.Author.Needs.{needs}
 use Rattle.source_nak.proofs.push_all.Statement.{statement}
 use Rattle.source_nak.proofs.push_all.Tie as tie
@@ -20,8 +21,20 @@ loop-holds c = search needs
 request-from-requires : tie.Need-request-from-requires Inv-loop μ-loop
 request-from-requires c κs = search needs
 
-push-owed-requires : tie.Need-push-owed-requires Inv-loop μ-loop
-push-owed-requires c κs = search needs
+takes-place-requires : tie.Need-takes-place-requires Inv-loop μ-loop
+takes-place-requires c κs = search needs
+
+mul-p : tie.Need-mul-p Inv-loop μ-loop
+mul-p c = let l = room (c .before .before .before .before .loop .u) (c .before .before .request-from .result) (sym (c .before .takes-place .ensures) ∙ c .if1 .taken) in
+    search needs
+
+element-set-from-p : tie.Need-element-set-from-p Inv-loop μ-loop
+element-set-from-p c = let l = room (c .before .before .before .before .loop .u) (c .before .before .request-from .result) (sym (c .before .takes-place .ensures) ∙ c .if1 .taken) in
+    search needs
+
+add-u : tie.Need-add-u Inv-loop μ-loop
+add-u c = let l = room (c .before .before .before .before .loop .u) (c .before .before .request-from .result) (sym (c .before .takes-place .ensures) ∙ c .if1 .taken) in
+    search needs
 
 next-pair-requires : tie.Need-next-pair-requires Inv-loop μ-loop
 next-pair-requires c κs = search needs
@@ -34,10 +47,15 @@ loop-less c = search needs
 
 loop-again : tie.Need-loop-again Inv-loop μ-loop
 loop-again c = let t = c .before .before in
-    let l = t .before .before in
+    let l = t .before .before .before in
     let a = l .before .before .args in
-    rw (c .next-pair .ensures, c .before .push-owed .ensures, t .request-from .ensures)
-    (push-turn (a .large) (a .bytes .now) (l .loop .u) (l .loop .k) (l .loop .i) (t .before .loop-test .taken) ∙ l .loop .inv)
+    let u = l .loop .u in
+    let r = t .before .request-from .result in
+    let e : c .before .if1 .u ≡ pushOwed u r =
+    ⊎-elim (λ x. x .1 ∙ pushed u r (sym (t .takes-place .ensures) ∙ x .0 .taken)) (λ x. x .1 ∙ unpushed u r (sym (t .takes-place .ensures) ∙ x .0 .left))
+    (c .before .if1 .came) in
+    rw (c .next-pair .ensures, e, t .before .request-from .ensures)
+    (push-turn (a .large) (a .bytes .now) u (l .loop .k) (l .loop .i) (t .before .before .loop-test .taken) ∙ l .loop .inv)
 
 returns : tie.Need-returns Inv-loop μ-loop
 returns c = let l = c .before in
@@ -52,7 +70,10 @@ push-all-spec =
     μ-loop
     loop-holds
     request-from-requires
-    push-owed-requires
+    takes-place-requires
+    mul-p
+    element-set-from-p
+    add-u
     next-pair-requires
     sub-k
     loop-less

@@ -16,8 +16,11 @@ returns : tie.Need-returns
 unfolding nakOf
 returns c = rw (c .refused .ensures) (search (picks, told) depth 8)
 
-any-invalid-requires : tie.Need-any-invalid-requires
-any-invalid-requires c κs = search needs
+judge-requires : tie.Need-judge-requires
+judge-requires c κs = search needs
+
+free-requires : tie.Need-free-requires
+free-requires c κs = search needs
 
 refused-requires-2 : tie.Need-refused-requires-2
 refused-requires-2 c κs = search needs
@@ -26,18 +29,15 @@ returns-2 : tie.Need-returns-2
 unfolding nakOf
 returns-2 c = rw (c .refused2 .ensures) (search (picks, told) depth 8)
 
-owing-count-requires : tie.Need-owing-count-requires
-owing-count-requires c κs = search needs
-
-free-requires : tie.Need-free-requires
-free-requires c κs = search needs
-
 refused-requires-3 : tie.Need-refused-requires-3
 refused-requires-3 c κs = search needs
 
 returns-3 : tie.Need-returns-3
 unfolding nakOf
-returns-3 c = rw (c .refused3 .ensures, ← (c .before .before .free .ensures)) (search (picks, told, via) depth 8)
+returns-3 c = let e = c .before .before in
+    let f = e .before .before in
+    let j = f .before in
+    rw (c .refused3 .ensures, ← (f .free .ensures), ← (j .judge .ensures .0), ← (j .judge .ensures .1), e .if2 .left, c .before .if3 .taken) (search (picks, told, via) depth 8)
 
 push-all-requires : tie.Need-push-all-requires
 push-all-requires c κs = search needs
@@ -47,7 +47,10 @@ accepted-requires c κs = search needs
 
 returns-4 : tie.Need-returns-4
 unfolding nakOf
-returns-4 c = rw (c .accepted .ensures, c .before .push-all .ensures, ← (c .before .before .before .free .ensures)) (search (picks, told, via) depth 8)
+returns-4 c = let e = c .before .before .before in
+    let f = e .before .before in
+    let j = f .before in
+    rw (c .accepted .ensures, c .before .push-all .ensures, ← (f .free .ensures), ← (j .judge .ensures .0), ← (j .judge .ensures .1), e .if2 .left, c .before .before .if3 .left) (search (picks, told, via) depth 8)
 
 pub handle-retransmission-spec : {M : Type 1} → statement M
 handle-retransmission-spec =
@@ -56,11 +59,10 @@ handle-retransmission-spec =
     takes-nak-requires
     refused-requires
     returns
-    any-invalid-requires
+    judge-requires
+    free-requires
     refused-requires-2
     returns-2
-    owing-count-requires
-    free-requires
     refused-requires-3
     returns-3
     push-all-requires
