@@ -11,8 +11,8 @@ ghost use mathlib.Core.Path.{_≡_};
 ghost use Prim.Native.Nat.{_+_, _≤_};
 ghost use lib.ListN.{length};
 ghost use Rattle.basis.specs.Laid.{laid, inFront};
-ghost use Rattle.rules.specs.Fields.{sizes};
-ghost use Rattle.rules.specs.Layout.{eof, layout, bodyBytes, encode, writtenOf};
+ghost use Rattle.rules_pdu.specs.Fields.{sizes};
+ghost use Rattle.rules_pdu.specs.Layout.{eof, layout, bodyBytes, encode, writtenOf};
 
 const EOF: u64 = 4;
 

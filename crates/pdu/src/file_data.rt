@@ -12,8 +12,8 @@ ghost use mathlib.Core.Path.{_≡_};
 ghost use Prim.Native.Nat.{_+_, _≤_};
 ghost use lib.ListN.{length};
 ghost use Rattle.basis.specs.Laid.{laid, inFront};
-ghost use Rattle.rules.specs.Fields.{sizes};
-ghost use Rattle.rules.specs.Layout.{fileData, layout, bodyBytes, encode, writtenOf};
+ghost use Rattle.rules_pdu.specs.Fields.{sizes};
+ghost use Rattle.rules_pdu.specs.Layout.{fileData, layout, bodyBytes, encode, writtenOf};
 
 fn put_file_data(out: &mut [u8], at: usize, large: bool, offset: u64, bytes: &[u8]) -> usize
     requires { ⌜ at + sizes (layout large (fileData offset (now bytes))) ≤ length (now out) ⌝ }

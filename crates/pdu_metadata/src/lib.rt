@@ -14,8 +14,8 @@ ghost use mathlib.Core.Path.{_≡_};
 ghost use Prim.Native.Nat.{_+_, _≤_};
 ghost use lib.ListN.{length};
 ghost use Rattle.basis.specs.Laid.{laid, inFront};
-ghost use Rattle.rules.specs.Fields.{sizes};
-ghost use Rattle.rules.specs.Layout.{metadata, layout, bodyBytes, encode, writtenOf};
+ghost use Rattle.rules_pdu.specs.Fields.{sizes};
+ghost use Rattle.rules_pdu.specs.Layout.{metadata, layout, bodyBytes, encode, writtenOf};
 
 const METADATA: u64 = 7;
 

@@ -10,7 +10,7 @@ use types::Frame;
 ghost use mathlib.Core.Path.{_≡_};
 ghost use Prim.Native.Nat.{_-_};
 ghost use Rattle.basis.specs.Bytes.{part};
-ghost use Rattle.rules.specs.Reading.{directiveIn, directed as directedIs, bodyOf};
+ghost use Rattle.rules_pdu.specs.Reading.{directiveIn, directed as directedIs, bodyOf};
 
 // The directive codes.
 const EOF: u8 = 4;

@@ -6,7 +6,7 @@ use Prim.Native.Nat.{ℕ, zero, suc, _+_, _-_, _<_}
 use native.Mathlib.Numerals.{add-one, sub-one}
 use lib.ListN.{length, getD, drop}
 use lib.Seq.{drop-cons}
-use Rattle.rules.specs.Reading.{Tlv, inValue, valueOf, tlvNext, tlvAfter}
+use Rattle.rules_pdu.specs.Reading.{Tlv, inValue, valueOf, tlvNext, tlvAfter}
 
 pub value-some : (k : ℕ) → (k ≡ 0 → ⊥) → inValue (k - 1) ≡ valueOf k
 value-some zero h = absurd (h refl)

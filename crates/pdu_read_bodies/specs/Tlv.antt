@@ -1,6 +1,6 @@
 -- The code's places in a run of TLVs, as those of the definition.
 -- Assumes nothing.
-use Rattle.rules.specs.Reading.{Tlv as TlvOf, atType, atLength, inValue, broken}
+use Rattle.rules_pdu.specs.Reading.{Tlv as TlvOf, atType, atLength, inValue, broken}
 use Rattle.pdu_read_bodies.specs.declared.finished.Tlv.{Tlv}
 use Rattle.pdu_read_bodies.specs.declared.finished.Tlv.the-variants.{AtType, AtLength, InValue, Broken}
 

@@ -3,7 +3,7 @@ use crate::condition::is_reserved;
 use types::Body;
 use types::Meaning;
 ghost use mathlib.Core.Path.{_≡_};
-ghost use Rattle.rules.specs.Reading.{ackIn};
+ghost use Rattle.rules_pdu.specs.Reading.{ackIn};
 
 // The acked code with the subtype that goes with it.
 const OF_EOF: u8 = 0x40;

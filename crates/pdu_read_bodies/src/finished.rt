@@ -5,7 +5,7 @@ use types::FinishedParams;
 use types::Meaning;
 ghost use mathlib.Core.Path.{_≡_};
 ghost use lib.ListN.{drop};
-ghost use Rattle.rules.specs.Reading.{valueOf, tlvNext, closed, areTlvs, finishedParams, finishedIn};
+ghost use Rattle.rules_pdu.specs.Reading.{valueOf, tlvNext, closed, areTlvs, finishedParams, finishedIn};
 ghost use Rattle.pdu_read_bodies.specs.Tlv.{meant};
 
 // Where a run of TLVs stands, byte by byte.

@@ -4,7 +4,7 @@ use pdu_read_header::field::size_width;
 use types::Body;
 use types::Meaning;
 ghost use mathlib.Core.Path.{_≡_};
-ghost use Rattle.rules.specs.Reading.{keepAliveIn};
+ghost use Rattle.rules_pdu.specs.Reading.{keepAliveIn};
 
 pub fn keep_alive_in(large: bool, b: &[u8]) -> Body
     ensures { λ r. ⌜ r ≡ keepAliveIn large (now (b .entry)) ⌝ }

@@ -3,7 +3,7 @@ use fields::num_at;
 ghost use mathlib.Core.Path.{_≡_};
 ghost use Prim.Native.Nat.{_*_, _<_, _≤_, _^_};
 ghost use Rattle.basis.specs.Bytes.{byte, part, numAt};
-ghost use Rattle.rules.specs.Numbers.{F};
+ghost use Rattle.rules_pdu.specs.Numbers.{F};
 
 // The byte at a place, and 0 past the end.
 pub fn byte_at(s: &[u8], i: usize) -> u8

@@ -15,8 +15,8 @@ use types::Head;
 use types::TransactionSeqNum;
 ghost use mathlib.Core.Path.{_≡_};
 ghost use Prim.Native.Nat.{_<_, _≤_, _^_};
-ghost use Rattle.rules.specs.Numbers.{goodWidth, C};
-ghost use Rattle.rules.specs.Reading.{bitIn, versionIn, crcIn, lengthIn, idWidthIn, seqWidthIn, headIn, hIn, endIn, bodyEnd, crcAgrees, wellFramed, frameIn, framedIn};
+ghost use Rattle.rules_pdu.specs.Numbers.{goodWidth, C};
+ghost use Rattle.rules_pdu.specs.Reading.{bitIn, versionIn, crcIn, lengthIn, idWidthIn, seqWidthIn, headIn, hIn, endIn, bodyEnd, crcAgrees, wellFramed, frameIn, framedIn};
 
 // ---- byte 0
 

@@ -4,7 +4,7 @@ use mathlib.Core.Bool.{Bool}
 use mathlib.Core.List.{List}
 use Prim.Native.Nat.{ℕ}
 use denote.Ref.{RefT, now}
-use Rattle.rules.specs.Reading.{requestAt}
+use Rattle.rules_pdu.specs.Reading.{requestAt}
 use Rattle.types.specs.declared.SegmentRequest.{SegmentRequest}
 use Rattle.pdu_read_nak.specs.declared.NakPduReader.{NakPduReader}
 

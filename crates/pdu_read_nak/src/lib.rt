@@ -7,8 +7,8 @@ use types::SegmentRequest;
 ghost use mathlib.Core.Path.{_≡_};
 ghost use Prim.Native.Nat.{_+_};
 ghost use Rattle.basis.specs.Bytes.{numAt};
-ghost use Rattle.rules.specs.Numbers.{F};
-ghost use Rattle.rules.specs.Reading.{nakIn, requestAt};
+ghost use Rattle.rules_pdu.specs.Numbers.{F};
+ghost use Rattle.rules_pdu.specs.Reading.{nakIn, requestAt};
 ghost use Rattle.pdu_read_nak.specs.Reader.{opened, movedTo, requestOf};
 
 pub fn nak_in(large: bool, b: &[u8]) -> Body

@@ -11,14 +11,14 @@ use lib.ListN.{length, take, length-append}
 use Rattle.basis.specs.Bytes.{be}
 use Rattle.basis.specs.Laid.{laid, inFront}
 use Rattle.basis.proofs.Laid.{laid-none, then, take-front, in-front, kept}
-use Rattle.rules.specs.Fields.{sizes}
-use Rattle.rules.specs.Numbers.{H, C}
+use Rattle.rules_pdu.specs.Fields.{sizes}
+use Rattle.rules_pdu.specs.Numbers.{H, C}
 use Rattle.rules_leaves.specs.Checksum.{crc16}
-use Rattle.rules.specs.Layout.{Said, headFields, headBytes, layout, trailer, pduBytes, isFileData, bodyBytes, encode, pduLength, writtenOf}
+use Rattle.rules_pdu.specs.Layout.{Said, headFields, headBytes, layout, trailer, pduBytes, isFileData, bodyBytes, encode, pduLength, writtenOf}
 use Rattle.types.specs.declared.Head.{Head}
 use Rattle.types.specs.declared.Written.the-variants.{Short, Wrote}
-use Rattle.rules.proofs.Places.{length-wire}
-use Rattle.rules.proofs.Round.{length-encode}
+use Rattle.rules_pdu.proofs.Places.{length-wire}
+use Rattle.rules_pdu.proofs.Round.{length-encode}
 
 -- ---- lengths: a layout is as long as its fields together
 

@@ -9,8 +9,8 @@ ghost use mathlib.Core.Bool.{false};
 ghost use Prim.Native.Nat.{_+_, _-_, _<_, _≤_};
 ghost use lib.ListN.{length, take};
 ghost use Rattle.basis.specs.Laid.{laid};
-ghost use Rattle.rules.specs.Numbers.{H as headLength, C};
-ghost use Rattle.rules.specs.Layout.{byte0, byte3, headBytes, trailer};
+ghost use Rattle.rules_pdu.specs.Numbers.{H as headLength, C};
+ghost use Rattle.rules_pdu.specs.Layout.{byte0, byte3, headBytes, trailer};
 
 // ---- lengths
 

@@ -7,7 +7,7 @@ use mathlib.Core.Option.{some}
 use Prim.Native.Nat.{ℕ, _+_, _≤_}
 use native.Mathlib.Omega.{arith}
 use lib.ListN.{length, length-append}
-use Rattle.rules.specs.Decoding.{fileDataOf}
+use Rattle.rules_pdu.specs.Decoding.{fileDataOf}
 use Rattle.rules.specs.Put.{putSpec}
 use Rattle.rules.specs.Tiles.{answers, weights}
 use Rattle.rules.specs.Runs.{Call, Event, made, after, seen, trace, Lends, BeforeEof, requests}

@@ -15,9 +15,9 @@ use borrow.Author.Tests.{eqb-true, eqb-false, leb-true, ltb-true, ltb-false, le-
 use Rattle.basis.specs.Pick.{pick}
 use Rattle.basis.specs.Bytes.{Bytes}
 use Rattle.basis.proofs.Pick.{cases}
-use Rattle.rules.specs.Numbers.{goodWidth, fits, larger, H, F, C, segmentLength}
-use Rattle.rules.specs.Layout.{metadata, pduLength}
-use Rattle.rules.specs.PduLaws.{Fit}
+use Rattle.rules_pdu.specs.Numbers.{goodWidth, fits, larger, H, F, C, segmentLength}
+use Rattle.rules_pdu.specs.Layout.{metadata, pduLength}
+use Rattle.rules_pdu.specs.PduLaws.{Fit}
 use Rattle.rules.specs.States.{isIdle}
 use Rattle.rules.specs.Queues.{pending}
 use Rattle.rules_leaves.specs.Utf8.{isUtf8}
@@ -34,7 +34,7 @@ use Rattle.types.specs.declared.Refusal.{Refusal}
 use Rattle.types.specs.declared.Answer.{Answer}
 use Rattle.types.specs.declared.Answer.the-variants.{Accepted, Refused}
 use Rattle.rules_leaves.proofs.Sums.{sum-lt}
-use Rattle.rules.proofs.Round.{size-fits}
+use Rattle.rules_pdu.proofs.Round.{size-fits}
 use Rattle.rules.proofs.Pending.{orderly-empty}
 use Rattle.rules.proofs.Outcomes.{passed, answer-by, state-by}
 use Rattle.rules.proofs.Hold.{Inv}

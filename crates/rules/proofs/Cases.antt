@@ -3,11 +3,11 @@
 use mathlib.Core.Path.{refl}
 use Rattle.basis.specs.Bytes.{be, numAt, num, part, byte}
 use Rattle.basis.specs.Laid.{inFront}
-use Rattle.rules.specs.Numbers.{goodWidth, fits, larger, numberAfter, isLarge, segmentLength}
+use Rattle.rules_pdu.specs.Numbers.{goodWidth, fits, larger, numberAfter, isLarge, segmentLength}
 use Rattle.rules_leaves.specs.Utf8.{isUtf8}
 use Rattle.rules_leaves.specs.Checksum.{more, modular, checksumOf, sumOf}
-use Rattle.rules.specs.Layout.{headBytes, trailer, pduBytes, bodyBytes, encode, pduLength}
-use Rattle.rules.specs.Reading.{bitIn, versionIn, fileDataIn, toSenderIn, unacknowledgedIn, crcIn, largeIn, lengthIn, idWidthIn, seqWidthIn, headIn, wellFramed, frameIn, framedIn, reserved, areTlvs, finishedParams, finishedIn, ackIn, requestCount, nakIn, directiveIn, bodyOf, requestAt, requestsFrom}
+use Rattle.rules_pdu.specs.Layout.{headBytes, trailer, pduBytes, bodyBytes, encode, pduLength}
+use Rattle.rules_pdu.specs.Reading.{bitIn, versionIn, fileDataIn, toSenderIn, unacknowledgedIn, crcIn, largeIn, lengthIn, idWidthIn, seqWidthIn, headIn, wellFramed, frameIn, framedIn, reserved, areTlvs, finishedParams, finishedIn, ackIn, requestCount, nakIn, directiveIn, bodyOf, requestAt, requestsFrom}
 use Rattle.rules.specs.Queues.{isMetadata, owes, invalid, anyInvalid, owing, free, push, pushOwed, pushAll, oldest, pop, served}
 use Rattle.rules.specs.Deliver.{verdictOf, sameTransaction, takesNak, nakOf, requestsIn, heard, deliverSpec}
 use Rattle.rules.specs.States.{idle}

@@ -13,9 +13,9 @@ use lib.ListN.{length, take, drop}
 use Rattle.basis.specs.Pick.{pick}
 use Rattle.basis.specs.Bytes.{byte, numAt}
 use Rattle.basis.proofs.Pick.{cases}
-use Rattle.rules.specs.Numbers.{F}
+use Rattle.rules_pdu.specs.Numbers.{F}
 use Rattle.rules_leaves.specs.Checksum.{crc16}
-use Rattle.rules.specs.Reading.{endIn, headIn, crcAgrees, wellFramed, frameIn, framedIn, bodyIn, fileDataIn, toSenderIn, largeIn, reserved, finishedParams, finishedIn, ackIn, requestCount, nakIn, keepAliveIn, directiveIn, directed, bodyOf}
+use Rattle.rules_pdu.specs.Reading.{endIn, headIn, crcAgrees, wellFramed, frameIn, framedIn, bodyIn, fileDataIn, toSenderIn, largeIn, reserved, finishedParams, finishedIn, ackIn, requestCount, nakIn, keepAliveIn, directiveIn, directed, bodyOf}
 use Rattle.rules.specs.Refusals.{answerNo}
 use Rattle.rules.specs.States.{isIdle}
 use Rattle.rules.specs.Queues.{invalid, anyInvalid, owing, free}
@@ -36,8 +36,8 @@ use Rattle.types.specs.declared.Verdict.{Verdict}
 use Rattle.types.specs.declared.Verdict.the-variants.{Move, Refuse, NoEffect}
 use Rattle.types.specs.declared.Refusal.the-variants.{OtherTransaction}
 use Rattle.types.specs.declared.Done.{Done}
-use Rattle.rules.proofs.Heard.{tlvs-exactly}
-use Rattle.rules.proofs.ExactBody.{reserved-exactly}
+use Rattle.rules_pdu.proofs.Heard.{tlvs-exactly}
+use Rattle.rules_pdu.proofs.ExactBody.{reserved-exactly}
 use Rattle.rules.proofs.Tells.{Tells, Fails, tests, tells-eqb, tells-ltb, fails-not, fails-map, tells-either, iff-tells, tells-idle, tells-step}
 use Rattle.rules.proofs.Order.{First, hits, fails, passes, here, there, either, anew, exactly}
 use Rattle.rules.proofs.Table.{verdict-nak, verdict-ack, verdict-finished, verdict-keep}

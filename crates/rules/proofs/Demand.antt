@@ -10,8 +10,8 @@ use native.Mathlib.Nat.{sub-zero}
 use native.Mathlib.Omega.{arith}
 use lib.ListN.{length, length-append, length-map}
 use Rattle.rules.specs.Queues.{pending}
-use Rattle.rules.specs.Decoding.{decode}
-use Rattle.rules.specs.PduLaws.{Fit}
+use Rattle.rules_pdu.specs.Decoding.{decode}
+use Rattle.rules_pdu.specs.PduLaws.{Fit}
 use Rattle.rules.specs.Put.{putSpec}
 use Rattle.rules.specs.Tiles.{tiles, answers, weights}
 use Rattle.rules.specs.Runs.{Call, Event, turned, began, took, made, ended, after, seen, trace, behind, Lends, steps, isEof, BeforeEof, NoPut, requests, owed, R, firstPass, repairs}

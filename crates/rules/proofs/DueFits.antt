@@ -7,8 +7,8 @@ use Prim.Native.Nat.{ℕ, _+_, _≤_}
 use native.Mathlib.Omega.{arith}
 use lib.ListN.{length, take, drop, length-take}
 use Rattle.basis.proofs.Pick.{cases}
-use Rattle.rules.specs.Numbers.{H, F, C}
-use Rattle.rules.specs.Layout.{metadata, fileData, eof, ackFinished, pduLength}
+use Rattle.rules_pdu.specs.Numbers.{H, F, C}
+use Rattle.rules_pdu.specs.Layout.{metadata, fileData, eof, ackFinished, pduLength}
 use Rattle.rules.specs.States.{idle, sourceName, destinationName}
 use Rattle.rules.specs.Queues.{isMetadata, oldest}
 use Rattle.rules.specs.Step.{eofOwed, dueOf, repairOf, closing, metadataOf, sendingOf, bytesFor, bytesDue}
@@ -22,7 +22,7 @@ use Rattle.types.specs.declared.Due.{Due}
 use Rattle.types.specs.declared.Due.the-variants.{CancelEof, Repair, Metadata, Data, NoErrorEof, EofAgain, FaultCancel, FaultIgnore, FaultAbandon, Close, Nothing}
 use Rattle.types.specs.declared.Sending.{Sending}
 use Rattle.types.specs.declared.Sending.the-variants.{Nothing as NoPdu, Metadata as MetadataPdu, FileData, Eof as EofPdu, AckFinished}
-use Rattle.rules.proofs.Round.{length-encode}
+use Rattle.rules_pdu.proofs.Round.{length-encode}
 
 -- a data PDU carries at most L bytes
 abbrev Small : ℕ → Sending → Type 0

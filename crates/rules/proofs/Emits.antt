@@ -13,7 +13,7 @@ use borrow.Author.Tests.{eqb-true, ltb-false}
 use Rattle.basis.specs.Pick.{pick}
 use Rattle.basis.specs.Laid.{inFront}
 use Rattle.basis.proofs.Laid.{taken}
-use Rattle.rules.specs.Layout.{Said, encode, pduLength}
+use Rattle.rules_pdu.specs.Layout.{Said, encode, pduLength}
 use Rattle.rules.specs.States.{isIdle, sourceName, destinationName}
 use Rattle.rules.specs.Step.{dueOf, sendingOf, closureBit, bytesFor, afterOf, eventsOf, changed, refusedStep, bytesDue, made as madeStep, stepSpec, stepBytes}
 use Rattle.rules.specs.Runs.{step, Event, turned, made, after, unless, pduIn, seen, LendsIn}
@@ -26,7 +26,7 @@ use Rattle.types.specs.declared.Sending.{Sending}
 use Rattle.types.specs.declared.Sending.the-variants.{Nothing as NoPdu, Metadata as MetadataPdu, FileData, Eof as EofPdu, AckFinished}
 use Rattle.types.specs.declared.Refusal.the-variants.{FileChanged, OutTooSmall}
 use Rattle.types.specs.declared.Answer.the-variants.{Accepted}
-use Rattle.rules.proofs.Round.{length-encode}
+use Rattle.rules_pdu.proofs.Round.{length-encode}
 
 -- ---- the bytes of a transfer's PDUs, and a state that sends them
 

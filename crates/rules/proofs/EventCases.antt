@@ -4,8 +4,8 @@ use mathlib.Core.Path.{_≡_, refl, ap}
 use mathlib.Core.Bool.{Bool, true, false}
 use mathlib.Core.List.{List, []}
 use Rattle.basis.specs.Pick.{pick}
-use Rattle.rules.specs.Step.{idOf, unreported, finishedIf, ackTimer, eofTimer, eofFinished}
-use Rattle.rules.specs.Events.{Told, finished, ifSet, ifFinished, listed, sent, EventCases}
+use Rattle.rules.specs.Step.{finishedIf, ackTimer, eofTimer, eofFinished}
+use Rattle.rules.specs.Events.{Told, finished, ifSet, ifFinished, listed, whose, plainly, sent, EventCases}
 use Rattle.types.specs.declared.TransactionId.{TransactionId}
 use Rattle.types.specs.declared.FinishedEvent.the-variants.{NotFinished, Finished}
 use Rattle.types.specs.declared.FinishedParams.{FinishedParams}
@@ -23,7 +23,7 @@ event-cases =
       silent = λ s. (refl, refl, refl);
       eof-acknowledged = λ s a. rw a refl;
       eof-closure = λ s a c. rw (a, c) refl;
-      eof-plain = λ s a c. rw (a, c) (ap (λ (l : List Told). sent s l) (by-flag (s .fixed .finished) (idOf s) unreported));
+      eof-plain = λ s a c. rw (a, c) (ap (λ (l : List Told). sent s l) (by-flag (s .fixed .finished) (whose s) plainly));
       again = λ s. refl;
       cancel-acknowledged = λ s a. rw a refl;
       cancel-plain = λ s a. rw a refl;
@@ -31,5 +31,5 @@ event-cases =
       fault-plain = λ s c a. rw a refl;
       ignore = λ s c. refl;
       abandon = λ s c. refl;
-      close = λ s. by-flag (s .fixed .finished) (idOf s) (s .marks .finished);
+      close = λ s. by-flag (s .fixed .finished) (whose s) (s .marks .finished);
     }

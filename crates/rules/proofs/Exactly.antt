@@ -1,9 +1,9 @@
 -- A step's refusals and a cancel's no, exactly when document 01 says so; a refusal changes nothing.
 -- Assumes nothing.
 use mathlib.Core.Path.{_≡_, refl}
-use mathlib.Core.Logic.{_⊎_, inl, inr, ⊎-elim}
+use mathlib.Core.Logic.{_↔_, _⊎_, inl, inr, ⊎-elim}
 use mathlib.Core.Bool.{Bool, true, false, true≢false, false≢true}
-use mathlib.Core.List.{List, _++_}
+use mathlib.Core.List.{List, [], _∷_, _++_}
 use Prim.Native.Nat.{ℕ, _-_}
 use lib.Dec.{eqb, ltb}
 use lib.ListN.{length, drop}
@@ -11,7 +11,7 @@ use Rattle.basis.specs.Pick.{pick}
 use Rattle.basis.specs.Bytes.{part}
 use Rattle.basis.specs.Laid.{inFront}
 use Rattle.basis.proofs.Pick.{cases}
-use Rattle.rules.specs.Reading.{framedIn, bodyOf}
+use Rattle.rules_pdu.specs.Reading.{framedIn, bodyOf}
 use Rattle.rules.specs.Refusals.{answerNo}
 use Rattle.rules.specs.States.{isIdle}
 use Rattle.rules.specs.Queues.{isMetadata, owes, anyInvalid, owing, free}
@@ -19,7 +19,7 @@ use Rattle.rules.specs.Put.{putAnswer, putState, byAnswer, putSpec}
 use Rattle.rules.specs.Deliver.{stepNo, verdictOf, sameTransaction, takesNak, nakOf, asked, byVerdict, heard, byBody, byFrame, deliverSpec}
 use Rattle.rules.specs.Step.{dueOf, afterOf, eventsOf, changed, refusedStep, bytesDue, made, stepSpec, stepBytes}
 use Rattle.rules.specs.Cancel.{canCancel, mayCancel, userCancelled, cancelSpec}
-use Rattle.rules.specs.Exactly.{stepRules, StepExactly, CancelExactly, CancelMarks, OwesExactly, NoEvents, RefusalChangesNothing}
+use Rattle.rules.specs.Exactly.{stepRules, StepExactly, CancelExactly, CancelMarks, OwesExactly, Counted, none, one, other, OwingExactly, NoEvents, RefusalChangesNothing}
 use Rattle.types.specs.declared.EntityId.{EntityId}
 use Rattle.types.specs.declared.TransactionSeqNum.{TransactionSeqNum}
 use Rattle.types.specs.declared.SegmentRequest.{SegmentRequest}
@@ -105,6 +105,19 @@ cancel-marks s source number = cancelled (mayCancel s source number) s (userCanc
 pub owes-exactly : OwesExactly
 unfolding owes isMetadata
 owes-exactly r = tells-iff (search tests)
+
+counted-owing : (rs : List SegmentRequest) → Counted rs (owing rs)
+unfolding owing
+counted-owing [] = none
+counted-owing (r ∷ rs) =
+    cases (λ (n : ℕ). Counted (r ∷ rs) n) (owes r) _ _ (λ e. one r rs (owing rs) e (counted-owing rs)) (λ e. other r rs (owing rs) e (counted-owing rs))
+
+metadata-is : (r : SegmentRequest) → (isMetadata r ≡ true) ↔ ((r .start ≡ 0) × (r .end ≡ 0))
+unfolding isMetadata
+metadata-is r = tells-iff (search tests)
+
+pub owing-exactly : OwingExactly
+owing-exactly = record { counts = counted-owing; metadata-pair = metadata-is }
 
 -- ---- a refusal changes nothing
 

@@ -11,8 +11,8 @@ use lib.ListN.{length, getD, take, drop}
 use Rattle.basis.specs.Pick.{pick}
 use Rattle.basis.specs.Bytes.{Bytes, part, byte}
 use Rattle.basis.proofs.Pick.{cases}
-use Rattle.rules.specs.Numbers.{F}
-use Rattle.rules.specs.Reading.{framedIn, reserved, areTlvs, finishedParams, finishedIn, ackIn, nakIn, keepAliveIn, directiveIn, directed, bodyOf}
+use Rattle.rules_pdu.specs.Numbers.{F}
+use Rattle.rules_pdu.specs.Reading.{framedIn, reserved, areTlvs, finishedParams, finishedIn, ackIn, nakIn, keepAliveIn, directiveIn, directed, bodyOf}
 use Rattle.rules.specs.States.{isIdle, toStep, withQueue, settled}
 use Rattle.rules.specs.Queues.{anyInvalid, owing, free, pushAll}
 use Rattle.rules.specs.Deliver.{stepNo, verdictOf, sameTransaction, takesNak, nakOf, requestsIn, finishedOf, byVerdict, heard, byBody, byFrame, deliverSpec}

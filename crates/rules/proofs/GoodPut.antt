@@ -11,7 +11,7 @@ use lib.ListN.{length, take, replicate, length-append, length-replicate}
 use lib.Seq.{take-append-seam, drop-append-seam}
 use Rattle.basis.specs.Pick.{pick}
 use Rattle.rules_leaves.specs.Utf8.{isUtf8}
-use Rattle.rules.specs.Layout.{metadata, encode, pduLength}
+use Rattle.rules_pdu.specs.Layout.{metadata, encode, pduLength}
 use Rattle.rules.specs.States.{isIdle}
 use Rattle.rules.specs.Put.{idsFit, isFound, entryOf, knownType, allKnown, goodEntry, goodConfig, goodLengths, headOf, tooLong, padded, paddedLength, fixedOf, started, entryAnswer, putAnswer, putState}
 use Rattle.rules.specs.Good.{GoodFixed, GoodName, Good}
@@ -27,7 +27,7 @@ use Rattle.rules.proofs.Tells.{both, but}
 use Rattle.rules.proofs.Outcomes.{passed}
 use Rattle.rules.proofs.Begun.{head-fit, entry-good, name-lengths, packet-holds, segment-range}
 use Rattle.rules.proofs.PutExactly.{tells-type, fails-actions}
-use Rattle.rules.proofs.Round.{length-encode}
+use Rattle.rules_pdu.proofs.Round.{length-encode}
 use Rattle.rules_leaves.proofs.Utf8.{utf8-exactly}
 use Rattle.rules.proofs.GoodQueue.{good-empty}
 use Rattle.rules.proofs.GoodMarks.{good-noMarks}

@@ -12,10 +12,10 @@ use lib.ListN.{length, take, drop, length-take, length-append}
 use borrow.Author.Tests.{le-ltb, eq-eqb}
 use Rattle.basis.specs.Pick.{pick}
 use Rattle.basis.specs.Bytes.{part}
-use Rattle.rules.specs.Numbers.{H, F, C}
-use Rattle.rules.specs.Layout.{encodeHeard, nak, pduLength, Pdu}
-use Rattle.rules.specs.Reading.{frameIn, headIn, bodyIn, bodyOf, requestsFrom}
-use Rattle.rules.specs.PduLaws.{firstPair}
+use Rattle.rules_pdu.specs.Numbers.{H, F, C}
+use Rattle.rules_pdu.specs.Layout.{encodeHeard, nak, pduLength, Pdu}
+use Rattle.rules_pdu.specs.Reading.{frameIn, headIn, bodyIn, bodyOf, requestsFrom}
+use Rattle.rules_pdu.specs.PduLaws.{firstPair}
 use Rattle.rules.specs.States.{isIdle, idle}
 use Rattle.rules.specs.Deliver.{requestsIn}
 use Rattle.rules.specs.Put.{entryOf, putSpec, putAnswer, putState, byAnswer}
@@ -25,7 +25,7 @@ use Rattle.rules.specs.Runs.{Event, trace, behind, firstPass, requestsOf
 use Rattle.rules.specs.Demand.{Transfer, planned, lastly, transferOf, meant}
 use Rattle.rules.specs.Companions.{carried, Live, ProgressMade, SecondPut, NakAsks, PlainSteps, PlainRun}
 use Rattle.rules.specs.Queues.{pending}
-use Rattle.rules.specs.Decoding.{decode}
+use Rattle.rules_pdu.specs.Decoding.{decode}
 use Rattle.types.specs.declared.Head.{Head}
 use Rattle.types.specs.declared.Frame.{Frame}
 use Rattle.types.specs.declared.LocalEntityConfig.{LocalEntityConfig}
@@ -37,8 +37,8 @@ use Rattle.types.specs.declared.TransactionStep.the-variants.{SendingMetadata}
 use Rattle.types.specs.declared.Sending.{Sending}
 use Rattle.types.specs.declared.Sending.the-variants.{Nothing as NoPdu, Metadata as MetadataPdu, FileData, Eof as EofPdu, AckFinished}
 use Rattle.types.specs.declared.Answer.the-variants.{Accepted}
-use Rattle.rules.proofs.Round.{length-encode}
-use Rattle.rules.proofs.Heard.{heard-read}
+use Rattle.rules_pdu.proofs.Round.{length-encode}
+use Rattle.rules_pdu.proofs.Heard.{heard-read}
 use Rattle.rules.proofs.Outcomes.{answer-by, state-by}
 use Rattle.rules.proofs.Tiles.{sizes, sizes-tiles, length-tiles}
 use Rattle.rules.proofs.Emits.{bytesOf, same-bytes, Shows, step-shows}

@@ -4,11 +4,10 @@ use mathlib.Core.Path.{_≡_, refl, ap, _∙_}
 use mathlib.Core.Bool.{Bool}
 use mathlib.Core.List.{List, [], _∷_}
 use Prim.Native.Nat.{ℕ, _+_, _*_, _^_}
-use native.Mathlib.Nat.{mod-self, mod-eq-of-lt}
 use lib.Dec.{eqb, ltb}
 use lib.ListN.{length}
 use Rattle.basis.proofs.Pick.{cases}
-use Rattle.rules.specs.Numbers.{numberAfter}
+use Rattle.rules_pdu.specs.Numbers.{numberAfter}
 use Rattle.rules.specs.States.{idle}
 use Rattle.rules.specs.Queues.{anyInvalid, owing, free}
 use Rattle.rules.specs.Put.{started, putAnswer, putState, byAnswer, putSpec}
@@ -16,7 +15,7 @@ use Rattle.rules.specs.Deliver.{verdictOf, takesNak, nakOf, movedBy, ask
 use Rattle.rules.specs.Step.{dueOf, nextLength, afterCancelEof, afterMetadata, afterData, afterEof, afterOf, changed, bytesDue, made as madeStep, stepSpec}
 use Rattle.rules.specs.Cancel.{resetSpec}
 use Rattle.rules.specs.Runs.{put, deliver, step, cancel, reset, Event, began, took, made, after, unless, trace, behind}
-use Rattle.rules.specs.NumberMoves.{NumberAfter, moves, movesAll, NumberMoves, NumberBehind}
+use Rattle.rules.specs.NumberMoves.{moves, movesAll, NumberMoves, NumberBehind}
 use Rattle.types.specs.declared.SegmentRequest.{SegmentRequest}
 use Rattle.types.specs.declared.Frame.{Frame}
 use Rattle.types.specs.declared.Meaning.{Meaning}
@@ -33,10 +32,6 @@ use Rattle.types.specs.declared.Answer.the-variants.{Accepted, Refused}
 use Rattle.types.specs.declared.Done.{Done}
 use Rattle.types.specs.declared.Stepped.{Stepped}
 use Rattle.rules.proofs.Outcomes.{cancel-by, delivered-by}
-
-pub number-after : NumberAfter
-unfolding numberAfter
-number-after w v = (λ e. rw (e, mod-self (2 ^ (8 * w))), λ h. rw (mod-eq-of-lt h))
 
 -- refused or not, a call whose event leaves the number shows nothing that moves it
 unless-same : (a : Answer) (e : Event) (n : TransactionSeqNum) → n ≡ moves e n → n ≡ moves (unless a e) n

@@ -8,7 +8,7 @@ use native.Mathlib.Omega.{arith}
 use lib.Dec.{ltb}
 use Rattle.basis.specs.Pick.{pick}
 use Rattle.basis.specs.Bytes.{part}
-use Rattle.rules.specs.Reading.{framedIn, bodyOf}
+use Rattle.rules_pdu.specs.Reading.{framedIn, bodyOf}
 use Rattle.rules.specs.States.{isIdle, withQueue}
 use Rattle.rules.specs.Queues.{pending, anyInvalid, owing, free, pushAll}
 use Rattle.rules.specs.Put.{putAnswer, putState, byAnswer, putSpec}

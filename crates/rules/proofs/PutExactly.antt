@@ -11,9 +11,9 @@ use lib.Dec.{eqb, ltb, leb·suc-suc}
 use lib.ListN.{length, take, getD, length-take}
 use lib.Seq.{getD-take}
 use Rattle.basis.specs.Pick.{pick}
-use Rattle.rules.specs.Numbers.{goodWidth, fits}
+use Rattle.rules_pdu.specs.Numbers.{goodWidth, fits}
 use Rattle.rules_leaves.specs.Utf8.{isUtf8, Utf8}
-use Rattle.rules.specs.Layout.{metadata, encode, pduLength}
+use Rattle.rules_pdu.specs.Layout.{metadata, encode, pduLength}
 use Rattle.rules.specs.Refusals.{answerNo}
 use Rattle.rules.specs.States.{isIdle}
 use Rattle.rules.specs.Put.{idsFit, findIn, entries, isFound, noRemote, entryOf, knownType, knownAction, allKnown, goodEntry, goodConfig, goodLength, goodLengths, headOf, tooLong, entryAnswer, putAnswer, byAnswer, putState, putSpec}
@@ -24,7 +24,7 @@ use Rattle.types.specs.declared.Head.{Head}
 use Rattle.types.specs.declared.RemoteEntityConfig.{RemoteEntityConfig}
 use Rattle.types.specs.declared.LocalEntityConfig.{LocalEntityConfig}
 use Rattle.types.specs.declared.Answer.{Answer}
-use Rattle.rules.proofs.Round.{widths-exactly, length-encode}
+use Rattle.rules_pdu.proofs.Round.{widths-exactly, length-encode}
 use Rattle.rules.proofs.Tells.{Tells, Fails, tests, tells-eqb, tells-ltb, fails-leb, fails-not, fails-either, iff-tells, fails-iff, tells-idle}
 use Rattle.rules.proofs.Order.{hits, fails, passes, exactly}
 use Rattle.rules_leaves.proofs.Utf8.{utf8-exactly}

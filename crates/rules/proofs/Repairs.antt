@@ -13,7 +13,7 @@ use lib.Seq.{take-all}
 use borrow.Author.Tests.{ltb-true, ltb-false}
 use Rattle.basis.specs.Pick.{pick}
 use Rattle.basis.proofs.Pick.{cases}
-use Rattle.rules.specs.Decoding.{decode}
+use Rattle.rules_pdu.specs.Decoding.{decode}
 use Rattle.rules.specs.States.{isIdle, withQueue, emptyQueue, idle}
 use Rattle.rules.specs.Queues.{oldest, served}
 use Rattle.rules.specs.Put.{putSpec}

@@ -10,17 +10,17 @@ use native.Mathlib.Omega.{arith}
 use lib.ListN.{length, take, drop, length-take, length-drop}
 use lib.Seq.{take-add, drop-drop, take-all}
 use borrow.Author.Tests.{eq-eqb}
-use Rattle.rules.specs.Numbers.{F}
+use Rattle.rules_pdu.specs.Numbers.{F}
 use Rattle.rules_leaves.specs.Checksum.{sumOf}
-use Rattle.rules.specs.Layout.{fileData, Pdu}
-use Rattle.rules.specs.Decoding.{decode, isEofIn, fileDataOf}
-use Rattle.rules.specs.PduLaws.{Fit, Sayable}
+use Rattle.rules_pdu.specs.Layout.{fileData, Pdu}
+use Rattle.rules_pdu.specs.Decoding.{decode, isEofIn, fileDataOf}
+use Rattle.rules_pdu.specs.PduLaws.{Fit, Sayable}
 use Rattle.rules.specs.Tiles.{tiles}
 use Rattle.rules.specs.Demand.{Transfer, meant, planned, lastly, stretch}
 use Rattle.rules.specs.Companions.{carried}
 use Rattle.types.specs.declared.Sending.{Sending}
 use Rattle.types.specs.declared.Sending.the-variants.{Nothing as NoPdu, Metadata as MetadataPdu, FileData, Eof as EofPdu, AckFinished}
-use Rattle.rules.proofs.Round.{round-trip, file-data, eof-seen}
+use Rattle.rules_pdu.proofs.Round.{round-trip, file-data, eof-seen}
 use Rattle.rules.proofs.Tiles.{Tiled, tiled-tiles, tiled-le, Within, tiles-within, sizes}
 use Rattle.rules.proofs.Emits.{bytesOf}
 use Rattle.rules.proofs.Hold.{Small}

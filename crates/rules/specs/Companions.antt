@@ -8,11 +8,11 @@ use mathlib.Core.Option.{Option, none, some}
 use Prim.Native.Nat.{ℕ, zero, suc, _+_, _^_, _<_, _≤_}
 use lib.ListN.{length, take}
 use Rattle.basis.specs.Bytes.{Bytes}
-use Rattle.rules.specs.Fields.{wire}
-use Rattle.rules.specs.Numbers.{C}
-use Rattle.rules.specs.Layout.{nak, layoutHeard, encodeHeard}
-use Rattle.rules.specs.Decoding.{decode, fileDataOf}
-use Rattle.rules.specs.PduLaws.{Fit, Hearable}
+use Rattle.rules_pdu.specs.Fields.{wire}
+use Rattle.rules_pdu.specs.Numbers.{C}
+use Rattle.rules_pdu.specs.Layout.{nak, layoutHeard, encodeHeard}
+use Rattle.rules_pdu.specs.Decoding.{decode, fileDataOf}
+use Rattle.rules_pdu.specs.PduLaws.{Fit, Hearable}
 use Rattle.rules.specs.States.{isIdle}
 use Rattle.rules.specs.Queues.{pending}
 use Rattle.rules.specs.Put.{entryOf, putSpec}

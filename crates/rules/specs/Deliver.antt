@@ -8,8 +8,8 @@ use lib.Dec.{eqb, ltb}
 use lib.ListN.{getD}
 use Rattle.basis.specs.Pick.{pick}
 use Rattle.basis.specs.Bytes.{part}
-use Rattle.rules.specs.Numbers.{F}
-use Rattle.rules.specs.Reading.{framedIn, bodyOf, requestsFrom}
+use Rattle.rules_pdu.specs.Numbers.{F}
+use Rattle.rules_pdu.specs.Reading.{framedIn, bodyOf, requestsFrom}
 use Rattle.rules.specs.States.{isIdle, toStep, withQueue, withMarks, settled, told, emptyQueue}
 use Rattle.rules.specs.Queues.{anyInvalid, owing, free, pushAll}
 use Rattle.types.specs.declared.Head.{Head}

@@ -12,10 +12,10 @@ use lib.Dec.{eqb}
 use lib.ListN.{length, take, drop}
 use Rattle.basis.specs.Pick.{pick}
 use Rattle.basis.specs.Bytes.{Bytes}
-use Rattle.rules.specs.Numbers.{segmentLength}
+use Rattle.rules_pdu.specs.Numbers.{segmentLength}
 use Rattle.rules_leaves.specs.Checksum.{sumOf}
-use Rattle.rules.specs.Layout.{Said, metadata, fileData, eof, ackFinished, Pdu}
-use Rattle.rules.specs.Decoding.{withHead, decode, fileDataOf}
+use Rattle.rules_pdu.specs.Layout.{Said, metadata, fileData, eof, ackFinished, Pdu}
+use Rattle.rules_pdu.specs.Decoding.{withHead, decode, fileDataOf}
 use Rattle.rules.specs.Put.{entryOf, chosen, headOf, putSpec}
 use Rattle.rules.specs.Tiles.{ceil, tiles}
 use Rattle.rules.specs.Runs.{Call, Event, made, trace, Lends, steps, isEof, BeforeEof, NoPut, owed, R, firstPass, repairs}

@@ -4,7 +4,7 @@ use mathlib.Core.Path.{_≡_}
 use mathlib.Core.Bool.{Bool, true, false}
 use mathlib.Core.List.{List, [], _∷_}
 use Prim.Native.Nat.{ℕ}
-use Rattle.rules.specs.Step.{idOf, unreported, eventsOf}
+use Rattle.rules.specs.Step.{eventsOf}
 use Rattle.types.specs.declared.State.{State}
 use Rattle.types.specs.declared.Due.{Due}
 use Rattle.types.specs.declared.Due.the-variants.{CancelEof, Repair, Metadata, Data, NoErrorEof, EofAgain, FaultCancel, FaultIgnore, FaultAbandon, Close, Nothing}
@@ -57,19 +57,27 @@ listed e =
 
 -- ---- the events of each case
 
+-- whose they are: the source id and the number
+abbrev pub whose : State → TransactionId
+whose s = (s .fixed .head .source, s .fixed .head .number)
+
+-- "(NoError, Complete, Unreported)"
+abbrev pub plainly : FinishedParams
+plainly = record { condition = 0; delivery = 0; status = 3 }
+
 abbrev pub Tells : State → Due → List Told → Type 0
 Tells s d l = listed (eventsOf s d) ≡ l
 
 -- "Each EOF gives an EOF-sent event; this and the finished events of 5 and 8 come only if the configuration's flag is set."
 abbrev pub sent : State → List Told → List Told
-sent s later = ifSet (s .fixed .eofsent) (eofSent (idOf s)) later
+sent s later = ifSet (s .fixed .eofsent) (eofSent (whose s)) later
 
 abbrev pub ends : State → FinishedParams → List Told
-ends s params = ifSet (s .fixed .finished) (finished (idOf s) params) []
+ends s params = ifSet (s .fixed .finished) (finished (whose s) params) []
 
 -- "A fault event carries action, condition, progress": 1 cancel, 3 ignore, 4 abandon
 abbrev pub faults : State → ℕ → ℕ → Told
-faults s action condition = fault (idOf s) action condition (s .file .progress)
+faults s action condition = fault (whose s) action condition (s .file .progress)
 
 abbrev pub Acknowledged : State → Type 0
 Acknowledged s = s .fixed .head .unacknowledged ≡ false
@@ -79,11 +87,11 @@ Unacknowledged s = s .fixed .head .unacknowledged ≡ true
 
 -- CASES event-cases: each case gives these events, in this order, and no other.
 pub record EventCases : Type 0 where
-  pub metadata : (s : State) → Tells s Metadata (transaction (idOf s) ∷ [])
+  pub metadata : (s : State) → Tells s Metadata (transaction (whose s) ∷ [])
   pub silent : (s : State) → Tells s Repair [] × Tells s Data [] × Tells s Nothing []
   pub eof-acknowledged : (s : State) → Acknowledged s → Tells s NoErrorEof (sent s (ackTimer ∷ []))
   pub eof-closure : (s : State) → Unacknowledged s → s .fixed .closure ≡ true → Tells s NoErrorEof (sent s (checkTimer ∷ []))
-  pub eof-plain : (s : State) → Unacknowledged s → s .fixed .closure ≡ false → Tells s NoErrorEof (sent s (ends s unreported))
+  pub eof-plain : (s : State) → Unacknowledged s → s .fixed .closure ≡ false → Tells s NoErrorEof (sent s (ends s plainly))
   pub again : (s : State) → Tells s EofAgain (sent s (ackTimer ∷ []))
   pub cancel-acknowledged : (s : State) → Acknowledged s → Tells s CancelEof (sent s (ackTimer ∷ []))
   pub cancel-plain : (s : State) → Unacknowledged s → Tells s CancelEof (sent s [])

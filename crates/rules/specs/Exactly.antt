@@ -5,18 +5,18 @@ use mathlib.Core.Path.{_≡_}
 use mathlib.Core.Logic.{_↔_, _⊎_}
 use mathlib.Core.Bool.{Bool, true, false}
 use mathlib.Core.List.{List, [], _∷_, _++_}
-use Prim.Native.Nat.{ℕ, _+_, _-_, _*_, _/_, _%_, _^_, _<_}
+use Prim.Native.Nat.{ℕ, suc, _+_, _-_, _*_, _/_, _%_, _^_, _<_}
 use lib.ListN.{length, take, drop}
 use Rattle.basis.specs.Bytes.{byte, numAt}
-use Rattle.rules.specs.Numbers.{F}
+use Rattle.rules_pdu.specs.Numbers.{F}
 use Rattle.rules_leaves.specs.Utf8.{Utf8}
 use Rattle.rules_leaves.specs.Checksum.{crc16}
-use Rattle.rules.specs.Layout.{metadata, encode}
-use Rattle.rules.specs.Reading.{versionIn, idWidthIn, seqWidthIn, lengthIn, crcIn, largeIn, fileDataIn, toSenderIn, headIn, endIn, frameIn, bodyIn, requestCount}
-use Rattle.rules.specs.PduLaws.{Tlvs}
+use Rattle.rules_pdu.specs.Layout.{metadata, encode}
+use Rattle.rules_pdu.specs.Reading.{versionIn, idWidthIn, seqWidthIn, lengthIn, crcIn, largeIn, fileDataIn, toSenderIn, headIn, endIn, frameIn, bodyIn, requestCount}
+use Rattle.rules_pdu.specs.PduLaws.{Tlvs}
 use Rattle.rules.specs.Refusals.{answerNo}
 use Rattle.rules.specs.States.{withQueue, withMarks, marked, emptyQueue}
-use Rattle.rules.specs.Queues.{owes, owing}
+use Rattle.rules.specs.Queues.{isMetadata, owes, owing}
 use Rattle.rules.specs.Put.{isFound, entryOf, chosen, headOf, putSpec}
 use Rattle.rules.specs.Deliver.{requestsIn, deliverSpec}
 use Rattle.rules.specs.Step.{bytesDue, stepSpec, stepBytes}
@@ -204,6 +204,17 @@ DeliverExactly = (s : State) (bytes : List ℕ) → Exactly (deliverRules s byte
 -- PROMISE owes-exactly: "Pair (0, 0) owes the metadata PDU; start = end otherwise owes nothing .. any other owes"
 abbrev pub OwesExactly : Type 0
 OwesExactly = (r : SegmentRequest) → (owes r ≡ true) ↔ (((r .start ≡ 0) × (r .end ≡ 0)) ⊎ (r .start < r .end))
+
+-- so many of these requests owe a PDU
+pub data Counted : List SegmentRequest → ℕ → Type 0 where
+  none : Counted [] 0
+  one : (r : SegmentRequest) (rs : List SegmentRequest) (n : ℕ) → owes r ≡ true → Counted rs n → Counted (r ∷ rs) (suc n)
+  other : (r : SegmentRequest) (rs : List SegmentRequest) (n : ℕ) → owes r ≡ false → Counted rs n → Counted (r ∷ rs) n
+
+-- PROMISE owing-exactly: 25 counts the requests that owe a PDU, and no other; (0, 0) alone owes the metadata PDU.
+pub record OwingExactly : Type 0 where
+  pub counts : (rs : List SegmentRequest) → Counted rs (owing rs)
+  pub metadata-pair : (r : SegmentRequest) → (isMetadata r ≡ true) ↔ ((r .start ≡ 0) × (r .end ≡ 0))
 
 -- ---- step: 30, 31
 

@@ -6,7 +6,7 @@ use mathlib.Core.List.{List}
 use mathlib.Core.Option.{some}
 use Prim.Native.Nat.{ℕ, _+_, _-_, _<_, _≤_}
 use lib.ListN.{length, replicate}
-use Rattle.rules.specs.Layout.{eof, encode}
+use Rattle.rules_pdu.specs.Layout.{eof, encode}
 use Rattle.rules.specs.States.{withMarks, counted}
 use Rattle.rules.specs.Step.{faultDue, dueOf}
 use Rattle.rules.specs.Runs.{Call, step, made, trace, behind}

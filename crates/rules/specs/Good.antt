@@ -8,10 +8,10 @@ use mathlib.Core.List.{List, [], _∷_}
 use Prim.Native.Nat.{ℕ, _+_, _-_, _^_, _<_, _≤_}
 use lib.ListN.{length, take, drop, replicate}
 use Rattle.basis.specs.Bytes.{Bytes}
-use Rattle.rules.specs.Numbers.{numberAfter, isLarge, H, F, C}
+use Rattle.rules_pdu.specs.Numbers.{numberAfter, isLarge, H, F, C}
 use Rattle.rules_leaves.specs.Utf8.{Utf8}
-use Rattle.rules.specs.Layout.{metadata, encode}
-use Rattle.rules.specs.PduLaws.{Fit}
+use Rattle.rules_pdu.specs.Layout.{metadata, encode}
+use Rattle.rules_pdu.specs.PduLaws.{Fit}
 use Rattle.rules.specs.States.{blank, emptyQueue, noFile, idle, sourceName, destinationName}
 use Rattle.rules.specs.Queues.{pending, owes}
 use Rattle.rules.specs.Put.{putSpec}

@@ -1,9 +1,3 @@
-pub mod Numbers
-pub mod Fields
-pub mod Layout
-pub mod Reading
-pub mod Decoding
-pub mod PduLaws
 pub mod Refusals
 pub mod States
 pub mod Queues
@@ -12,7 +6,6 @@ pub mod Deliver
 pub mod Step
 pub mod Cancel
 pub mod Calls
-pub mod PduCases
 pub mod Tiles
 pub mod Runs
 pub mod Demand
@@ -24,3 +17,4 @@ pub mod Good
 pub mod Events
 pub mod NumberMoves
 pub mod Expiry
+pub mod Makes

@@ -7,9 +7,9 @@ use Prim.Native.Nat.{ℕ, suc, _-_, min}
 use lib.Dec.{eqb, leb, ltb}
 use lib.ListN.{length, getD, take, replicate}
 use Rattle.basis.specs.Pick.{pick}
-use Rattle.rules.specs.Numbers.{fits, larger, widened, numberAfter, isLarge, segmentLength}
+use Rattle.rules_pdu.specs.Numbers.{fits, larger, widened, numberAfter, isLarge, segmentLength}
 use Rattle.rules_leaves.specs.Utf8.{isUtf8}
-use Rattle.rules.specs.Layout.{metadata, pduLength}
+use Rattle.rules_pdu.specs.Layout.{metadata, pduLength}
 use Rattle.rules.specs.States.{isIdle, emptyQueue, noFile, noMarks}
 use Rattle.types.specs.declared.EntityId.{EntityId}
 use Rattle.types.specs.declared.TransactionSeqNum.{TransactionSeqNum}

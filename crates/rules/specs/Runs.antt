@@ -9,8 +9,8 @@ use Prim.Native.Nat.{ℕ, zero, suc, _+_, _-_}
 use lib.ListN.{length, take}
 use Rattle.basis.specs.Pick.{pick}
 use Rattle.basis.specs.Bytes.{part}
-use Rattle.rules.specs.Reading.{framedIn, bodyOf}
-use Rattle.rules.specs.Decoding.{isEofIn}
+use Rattle.rules_pdu.specs.Reading.{framedIn, bodyOf}
+use Rattle.rules_pdu.specs.Decoding.{isEofIn}
 use Rattle.rules.specs.Put.{putSpec}
 use Rattle.rules.specs.Deliver.{deliverSpec, asked}
 use Rattle.rules.specs.Step.{stepSpec, stepBytes}

@@ -9,7 +9,7 @@ use lib.ListN.{length, getD, take, drop}
 use Rattle.basis.specs.Pick.{pick}
 use Rattle.basis.specs.Laid.{inFront}
 use Rattle.rules_leaves.specs.Checksum.{sumOf}
-use Rattle.rules.specs.Layout.{Said, metadata, fileData, eof, ackFinished, encode}
+use Rattle.rules_pdu.specs.Layout.{Said, metadata, fileData, eof, ackFinished, encode}
 use Rattle.rules.specs.States.{isIdle, toStep, withFile, withQueue, withMarks, progressed, keeping, counted, marked, settled, emptyQueue, idle, sourceName, destinationName}
 use Rattle.rules.specs.Queues.{isMetadata, oldest, piece, served}
 use Rattle.types.specs.declared.Head.{Head}

@@ -4,8 +4,8 @@ use mathlib.Core.Path.{_≡_, refl, sym}
 use mathlib.Core.List.{List}
 use Prim.Native.Nat.{ℕ, _+_, min}
 use lib.ListN.{length}
-use Rattle.rules.specs.Numbers.{F}
-use Rattle.rules.specs.Reading.{requestsFrom}
+use Rattle.rules_pdu.specs.Numbers.{F}
+use Rattle.rules_pdu.specs.Reading.{requestsFrom}
 use Rattle.rules.specs.Deliver.{requestsIn, asked}
 use Rattle.types.specs.declared.Frame.{Frame}
 use Rattle.types.specs.declared.Meaning.{Meaning}

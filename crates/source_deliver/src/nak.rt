@@ -11,8 +11,8 @@ use types::Refusal;
 use types::State;
 ghost use mathlib.Core.Path.{_≡_};
 ghost use Prim.Native.Nat.{_+_, min};
-ghost use Rattle.rules.specs.Numbers.{F};
-ghost use Rattle.rules.specs.Reading.{requestsFrom};
+ghost use Rattle.rules_pdu.specs.Numbers.{F};
+ghost use Rattle.rules_pdu.specs.Reading.{requestsFrom};
 ghost use Rattle.rules.specs.Deliver.{takesNak, nakOf, requestsIn};
 
 // Not in unacknowledged mode, not after cancellation.

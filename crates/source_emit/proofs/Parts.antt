@@ -10,7 +10,7 @@ use borrow.Author.Tests.{le-ltb}
 use Rattle.basis.specs.Bytes.{part}
 use Rattle.basis.specs.Laid.{inFront}
 use Rattle.basis.proofs.Bytes.{part-min}
-use Rattle.rules.specs.Layout.{writtenOf}
+use Rattle.rules_pdu.specs.Layout.{writtenOf}
 use Rattle.types.specs.declared.Written.the-variants.{Wrote}
 
 -- no PDU: nothing is written

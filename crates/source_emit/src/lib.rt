@@ -12,7 +12,7 @@ use types::Written;
 ghost use mathlib.Core.Path.{_≡_};
 ghost use lib.ListN.{take, drop};
 ghost use Rattle.basis.specs.Laid.{inFront};
-ghost use Rattle.rules.specs.Layout.{metadata, fileData, encode, writtenOf};
+ghost use Rattle.rules_pdu.specs.Layout.{metadata, fileData, encode, writtenOf};
 ghost use Rattle.rules.specs.States.{sourceName, destinationName};
 ghost use Rattle.rules.specs.Step.{closureBit, metadataOf, bytesFor};
 

@@ -12,9 +12,9 @@ use lib.Dec.{leb, ltb}
 use lib.ListN.{length, set}
 use Rattle.basis.specs.Pick.{pick, flag}
 use Rattle.basis.proofs.Bytes.{num-past}
-use Rattle.rules.specs.Numbers.{F}
+use Rattle.rules_pdu.specs.Numbers.{F}
 use Rattle.rules.specs.States.{blank}
-use Rattle.rules.specs.Reading.{requestAt, requestsFrom}
+use Rattle.rules_pdu.specs.Reading.{requestAt, requestsFrom}
 use Rattle.rules.specs.Queues.{owes, invalid, anyInvalid, owing, push, pushOwed, pushAll}
 use Rattle.types.specs.declared.SegmentRequest.{SegmentRequest}
 use Rattle.types.specs.declared.Queue.{Queue}

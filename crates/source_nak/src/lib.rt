@@ -11,9 +11,9 @@ ghost use mathlib.Core.Bool.{true, false};
 ghost use Prim.Native.Nat.{_+_, min};
 ghost use lib.Dec.{ltb};
 ghost use Rattle.basis.specs.Pick.{pick};
-ghost use Rattle.rules.specs.Numbers.{F};
+ghost use Rattle.rules_pdu.specs.Numbers.{F};
 ghost use Rattle.rules.specs.Queues.{owes, anyInvalid, owing, pushAll};
-ghost use Rattle.rules.specs.Reading.{requestsFrom};
+ghost use Rattle.rules_pdu.specs.Reading.{requestsFrom};
 
 // The place of the next pair, or the end.
 pub fn next_pair(n: usize, large: bool, at: usize) -> usize

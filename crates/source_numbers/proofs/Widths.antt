@@ -7,7 +7,7 @@ use borrow.Author.Tests.{eqb-true, ne-eqb, lt-ltb}
 use lib.Dec.{eqb, ltb}
 use lib.Pow.{mod-mod-pow}
 use Rattle.basis.specs.Pick.{pick}
-use Rattle.rules.specs.Numbers.{goodWidth, fits, numberAfter}
+use Rattle.rules_pdu.specs.Numbers.{goodWidth, fits, numberAfter}
 use Rattle.types.specs.declared.TransactionSeqNum.{TransactionSeqNum}
 
 module _ (w : ℕ) (one : w ≡ 1 → ⊥) (two : w ≡ 2 → ⊥) (four : w ≡ 4 → ⊥) where

@@ -6,7 +6,7 @@ use types::TransactionSeqNum;
 ghost use mathlib.Core.Path.{_≡_};
 ghost use mathlib.Core.Bool.{true};
 ghost use Prim.Native.Nat.{_+_, _≤_};
-ghost use Rattle.rules.specs.Numbers.{goodWidth, fits, larger, numberAfter, H as lengthH, F, C, isLarge, segmentLength};
+ghost use Rattle.rules_pdu.specs.Numbers.{goodWidth, fits, larger, numberAfter, H as lengthH, F, C, isLarge, segmentLength};
 
 // Width 1, 2, 4 or 8 and a value that fits it.
 pub fn fits(w: u8, v: u64) -> bool

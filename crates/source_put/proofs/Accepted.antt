@@ -8,7 +8,7 @@ use native.Mathlib.Omega.{arith}
 use lib.Dec.{ltb}
 use Rattle.basis.specs.Pick.{pick}
 use Rattle.basis.proofs.Pick.{pick-t}
-use Rattle.rules.specs.Numbers.{goodWidth, fits}
+use Rattle.rules_pdu.specs.Numbers.{goodWidth, fits}
 use Rattle.rules.specs.States.{isIdle}
 use Rattle.rules.specs.Put.{idsFit, isFound, entryOf, headOf, entryAnswer, putAnswer}
 use Rattle.types.specs.declared.State.{State}

@@ -16,7 +16,7 @@ use types::Refusal;
 use types::State;
 ghost use mathlib.Core.Path.{_≡_};
 ghost use mathlib.Core.Bool.{true};
-ghost use Rattle.rules.specs.Numbers.{goodWidth};
+ghost use Rattle.rules_pdu.specs.Numbers.{goodWidth};
 ghost use Rattle.rules.specs.Put.{putAnswer, putState};
 ghost use Rattle.rules.specs.Calls.{PutMeets};
 

@@ -8,8 +8,8 @@ use native.Mathlib.Omega.{arith}
 use borrow.Author.Tests.{ltb-true, ltb-false, lt-ltb, le-ltb}
 use lib.Dec.{ltb}
 use lib.ListN.{length}
-use Rattle.rules.specs.Numbers.{H, F, C}
-use Rattle.rules.specs.Layout.{metadata, pduLength}
+use Rattle.rules_pdu.specs.Numbers.{H, F, C}
+use Rattle.rules_pdu.specs.Layout.{metadata, pduLength}
 use Rattle.rules.specs.Put.{tooLong}
 use Rattle.types.specs.declared.Head.{Head}
 use Rattle.types.specs.declared.RemoteEntityConfig.{RemoteEntityConfig}

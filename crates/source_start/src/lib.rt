@@ -28,7 +28,7 @@ use types::TransactionStep;
 use utf8::is_utf8;
 ghost use mathlib.Core.Path.{_≡_};
 ghost use mathlib.Core.Bool.{true};
-ghost use Rattle.rules.specs.Numbers.{goodWidth};
+ghost use Rattle.rules_pdu.specs.Numbers.{goodWidth};
 ghost use Rattle.rules.specs.Put.{chosen, headOf, tooLong, fixedOf, started, entryAnswer};
 
 // The put's own word, or the entry's.

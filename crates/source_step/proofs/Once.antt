@@ -9,7 +9,7 @@ use lib.Dec.{eqb, leb, ltb}
 use lib.ListN.{length}
 use borrow.Author.Tests.{leb-false}
 use Rattle.basis.proofs.Pick.{cases}
-use Rattle.rules.specs.Layout.{writtenOf}
+use Rattle.rules_pdu.specs.Layout.{writtenOf}
 use Rattle.rules.specs.Step.{actionFor, faultDue, ackExpired, checkExpired, dueAt, eofOwed, dueOf, sendingOf, bytesFor, afterOf, eventsOf, refusedStep, made}
 use Rattle.types.specs.declared.State.{State}
 use Rattle.types.specs.declared.TransactionStep.{TransactionStep}

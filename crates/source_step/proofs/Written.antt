@@ -8,7 +8,7 @@ use native.Mathlib.Omega.{arith}
 use lib.Dec.{ltb}
 use lib.ListN.{length}
 use Rattle.basis.specs.Pick.{pick}
-use Rattle.rules.specs.Layout.{writtenOf}
+use Rattle.rules_pdu.specs.Layout.{writtenOf}
 use Rattle.types.specs.declared.Written.{Written}
 use Rattle.types.specs.declared.Written.the-variants.{Short, Wrote}
 

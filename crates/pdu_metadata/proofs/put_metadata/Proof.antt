@@ -1,7 +1,7 @@
 -- Seven fields, each laid behind the one before, are the body. Assumes nothing.
 use native.Mathlib.Omega.{arith}
 use Rattle.basis.proofs.Laid.{field, run, last-run}
-use Rattle.rules.specs.Layout.{bodyBytes}
+use Rattle.rules_pdu.specs.Layout.{bodyBytes}
 use borrow.Author.Needs.{needs}
 use Rattle.pdu_metadata.proofs.put_metadata.Statement.{statement}
 use Rattle.pdu_metadata.proofs.put_metadata.Tie as tie

@@ -4,7 +4,7 @@ use mathlib.Core.Path.{ap}
 use Prim.Native.Nat.{ℕ, _/_, _^_}
 use lib.Bits.{and-mask}
 use lib.Dec.{eqb}
-use Rattle.rules.specs.Reading.{bitIn}
+use Rattle.rules_pdu.specs.Reading.{bitIn}
 use borrow.Author.Needs.{needs}
 use Rattle.pdu_read_header.proofs.bit.Statement.{statement}
 use Rattle.pdu_read_header.proofs.bit.Tie as tie

@@ -1,7 +1,7 @@
 -- The two numbers compared are the definition's, since the place they meet at is.
 -- Assumes nothing.
 use Rattle.basis.specs.Bytes.{part}
-use Rattle.rules.specs.Reading.{crcAgrees}
+use Rattle.rules_pdu.specs.Reading.{crcAgrees}
 use borrow.Author.Needs.{needs}
 use Rattle.pdu_read_header.proofs.crc_agrees.Statement.{statement}
 use Rattle.pdu_read_header.proofs.crc_agrees.Tie as tie

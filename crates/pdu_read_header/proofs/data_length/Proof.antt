@@ -1,6 +1,6 @@
 -- The number in bytes 1 and 2 is the definition's, and fits 16 bits.
 -- Assumes nothing.
-use Rattle.rules.specs.Reading.{lengthIn}
+use Rattle.rules_pdu.specs.Reading.{lengthIn}
 use borrow.Author.Needs.{needs}
 use Rattle.pdu_read_header.proofs.data_length.Statement.{statement}
 use Rattle.pdu_read_header.proofs.data_length.Tie as tie

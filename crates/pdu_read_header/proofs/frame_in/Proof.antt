@@ -1,6 +1,6 @@
 -- Field by field what the callees say.
 -- Assumes nothing.
-use Rattle.rules.specs.Reading.{frameIn, fileDataIn, toSenderIn}
+use Rattle.rules_pdu.specs.Reading.{frameIn, fileDataIn, toSenderIn}
 use borrow.Author.Needs.{needs}
 use Rattle.pdu_read_header.proofs.frame_in.Statement.{statement}
 use Rattle.pdu_read_header.proofs.frame_in.Tie as tie

@@ -1,7 +1,7 @@
 -- Each way through the tests is a branch of the definition.
 -- Assumes nothing.
 use Rattle.basis.proofs.Pick.{picks}
-use Rattle.rules.specs.Numbers.{goodWidth}
+use Rattle.rules_pdu.specs.Numbers.{goodWidth}
 use Rattle.pdu_read_header.proofs.good_width.Statement.{statement}
 use Rattle.pdu_read_header.proofs.good_width.Tie as tie
 

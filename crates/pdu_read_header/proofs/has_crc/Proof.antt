@@ -1,6 +1,6 @@
 -- Bit 1 of byte 0.
 -- Assumes nothing.
-use Rattle.rules.specs.Reading.{crcIn}
+use Rattle.rules_pdu.specs.Reading.{crcIn}
 use borrow.Author.Needs.{needs}
 use Rattle.pdu_read_header.proofs.has_crc.Statement.{statement}
 use Rattle.pdu_read_header.proofs.has_crc.Tie as tie

@@ -1,6 +1,6 @@
 -- Field by field what the callees say.
 -- Assumes nothing.
-use Rattle.rules.specs.Reading.{headIn, unacknowledgedIn, crcIn, largeIn}
+use Rattle.rules_pdu.specs.Reading.{headIn, unacknowledgedIn, crcIn, largeIn}
 use borrow.Author.Needs.{needs}
 use Rattle.pdu_read_header.proofs.head_in.Statement.{statement}
 use Rattle.pdu_read_header.proofs.head_in.Tie as tie

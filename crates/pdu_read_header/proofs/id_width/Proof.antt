@@ -3,7 +3,7 @@
 use Prim.Native.Nat.{_/_}
 use native.Mathlib.Omega.{arith}
 use lib.Bits.{and-mask, mask-lt}
-use Rattle.rules.specs.Reading.{idWidthIn}
+use Rattle.rules_pdu.specs.Reading.{idWidthIn}
 use borrow.Author.Needs.{needs}
 use Rattle.pdu_read_header.proofs.id_width.Statement.{statement}
 use Rattle.pdu_read_header.proofs.id_width.Tie as tie

@@ -1,7 +1,7 @@
 -- The frame if the callee says that it is whole, as in the definition.
 -- Assumes nothing.
 use Rattle.basis.proofs.Pick.{picks, told}
-use Rattle.rules.specs.Reading.{framedIn}
+use Rattle.rules_pdu.specs.Reading.{framedIn}
 use borrow.Author.Needs.{needs}
 use Rattle.pdu_read_header.proofs.read_header.Statement.{statement}
 use Rattle.pdu_read_header.proofs.read_header.Tie as tie

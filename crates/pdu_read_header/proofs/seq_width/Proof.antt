@@ -2,7 +2,7 @@
 -- Assumes nothing.
 use native.Mathlib.Omega.{arith}
 use lib.Bits.{and-mask, mask-lt}
-use Rattle.rules.specs.Reading.{seqWidthIn}
+use Rattle.rules_pdu.specs.Reading.{seqWidthIn}
 use borrow.Author.Needs.{needs}
 use Rattle.pdu_read_header.proofs.seq_width.Statement.{statement}
 use Rattle.pdu_read_header.proofs.seq_width.Tie as tie

@@ -1,6 +1,6 @@
 -- A shift by five divides by 32.
 -- Assumes nothing.
-use Rattle.rules.specs.Reading.{versionIn}
+use Rattle.rules_pdu.specs.Reading.{versionIn}
 use borrow.Author.Needs.{needs}
 use Rattle.pdu_read_header.proofs.version.Statement.{statement}
 use Rattle.pdu_read_header.proofs.version.Tie as tie

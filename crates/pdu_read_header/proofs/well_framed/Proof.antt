@@ -1,7 +1,7 @@
 -- The definition's tests, said by what the callees found, are the tests that the code made.
 -- Assumes nothing.
 use Rattle.basis.proofs.Pick.{picks, told, via}
-use Rattle.rules.specs.Reading.{wellFramed}
+use Rattle.rules_pdu.specs.Reading.{wellFramed}
 use borrow.Author.Needs.{needs}
 use Rattle.pdu_read_header.proofs.well_framed.Statement.{statement}
 use Rattle.pdu_read_header.proofs.well_framed.Tie as tie

@@ -1,7 +1,7 @@
 -- The definition, said by the width that the callee gave, is the tests that the code made.
 -- Assumes nothing.
 use Rattle.basis.proofs.Pick.{picks}
-use Rattle.rules.specs.Reading.{nakIn, requestCount}
+use Rattle.rules_pdu.specs.Reading.{nakIn, requestCount}
 use borrow.Author.Needs.{needs}
 use Rattle.pdu_read_nak.proofs.nak_in.Statement.{statement}
 use Rattle.pdu_read_nak.proofs.nak_in.Tie as tie

@@ -1,6 +1,6 @@
 -- Both numbers are read with the definition's width, at its places.
 -- Assumes nothing.
-use Rattle.rules.specs.Reading.{requestAt}
+use Rattle.rules_pdu.specs.Reading.{requestAt}
 use borrow.Author.Needs.{needs}
 use Rattle.pdu_read_nak.proofs.request_at.Statement.{statement}
 use Rattle.pdu_read_nak.proofs.request_at.Tie as tie

@@ -1,6 +1,6 @@
 -- Six fields, each laid behind the one before, are the header. Assumes nothing.
 use Rattle.basis.proofs.Laid.{field, last-field}
-use Rattle.rules.specs.Layout.{headBytes}
+use Rattle.rules_pdu.specs.Layout.{headBytes}
 use borrow.Author.Needs.{needs}
 use Rattle.pdu_write_header.proofs.put_head.Statement.{statement}
 use Rattle.pdu_write_header.proofs.put_head.Tie as tie

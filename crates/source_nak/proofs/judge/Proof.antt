@@ -4,7 +4,7 @@ use mathlib.Core.Path.{_≡_, sym, _∙_}
 use mathlib.Core.Bool.{true}
 use Prim.Native.Nat.{_+_, _≤_}
 use Rattle.basis.specs.Pick.{pick}
-use Rattle.rules.specs.Reading.{requestsFrom}
+use Rattle.rules_pdu.specs.Reading.{requestsFrom}
 use Rattle.rules.specs.Queues.{anyInvalid, owing}
 use Rattle.source_nak.proofs.Requests.{bad-turn, bad-end, owing-turn, owing-end}
 use borrow.Author.Needs.{needs}

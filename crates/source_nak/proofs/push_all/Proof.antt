@@ -2,7 +2,7 @@
 -- Assumes nothing.
 use mathlib.Core.Path.{_≡_, sym, _∙_}
 use mathlib.Core.Logic.{⊎-elim}
-use Rattle.rules.specs.Reading.{requestsFrom}
+use Rattle.rules_pdu.specs.Reading.{requestsFrom}
 use Rattle.rules.specs.Queues.{pushOwed, pushAll}
 use Rattle.source_nak.proofs.Requests.{room, pushed, unpushed, push-turn, push-end}
 use borrow.Author.Needs.{needs}

@@ -1,7 +1,7 @@
 -- At each width the power is a numeral; at eight every number fits.
 -- Assumes nothing.
 use native.Mathlib.Omega.{arith}
-use Rattle.rules.specs.Numbers.{fits, goodWidth}
+use Rattle.rules_pdu.specs.Numbers.{fits, goodWidth}
 use Rattle.source_numbers.proofs.Widths.{fits-last}
 use Rattle.source_numbers.proofs.fits.Statement.{statement}
 use Rattle.source_numbers.proofs.fits.Tie as tie

@@ -1,7 +1,7 @@
 -- The test is the definition's.
 -- Assumes nothing.
 use mathlib.Core.Path.{refl}
-use Rattle.rules.specs.Numbers.{isLarge}
+use Rattle.rules_pdu.specs.Numbers.{isLarge}
 use Rattle.source_numbers.proofs.is_large.Statement.{statement}
 use Rattle.source_numbers.proofs.is_large.Tie as tie
 

@@ -1,7 +1,7 @@
 -- The test is the definition's.
 -- Assumes nothing.
 use Rattle.basis.proofs.Pick.{picks}
-use Rattle.rules.specs.Numbers.{larger}
+use Rattle.rules_pdu.specs.Numbers.{larger}
 use Rattle.source_numbers.proofs.larger.Statement.{statement}
 use Rattle.source_numbers.proofs.larger.Tie as tie
 

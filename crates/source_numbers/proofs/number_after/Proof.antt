@@ -1,7 +1,7 @@
 -- The sum wraps at 64 bits, and then at the width.
 -- Assumes nothing.
 use mathlib.Core.Path.{refl}
-use Rattle.rules.specs.Numbers.{numberAfter}
+use Rattle.rules_pdu.specs.Numbers.{numberAfter}
 use Rattle.source_numbers.proofs.Widths.{eight, number-after}
 use borrow.Author.Needs.{needs}
 use Rattle.source_numbers.proofs.number_after.Statement.{statement}

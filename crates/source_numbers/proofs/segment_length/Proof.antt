@@ -1,7 +1,7 @@
 -- What the packet maximum leaves, cut at the segment maximum.
 -- Assumes nothing.
 use native.Mathlib.Omega.{arith}
-use Rattle.rules.specs.Numbers.{segmentLength}
+use Rattle.rules_pdu.specs.Numbers.{segmentLength}
 use borrow.Author.Needs.{needs}
 use Rattle.source_numbers.proofs.segment_length.Statement.{statement}
 use Rattle.source_numbers.proofs.segment_length.Tie as tie

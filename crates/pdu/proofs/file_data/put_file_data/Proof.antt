@@ -1,6 +1,6 @@
 -- The offset, and behind it the bytes, are the body. Assumes nothing.
 use Rattle.basis.proofs.Laid.{field, last-run}
-use Rattle.rules.specs.Layout.{bodyBytes}
+use Rattle.rules_pdu.specs.Layout.{bodyBytes}
 use borrow.Author.Needs.{needs}
 use Rattle.pdu.proofs.file_data.put_file_data.Statement.{statement}
 use Rattle.pdu.proofs.file_data.put_file_data.Tie as tie

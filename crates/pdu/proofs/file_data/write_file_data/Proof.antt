@@ -1,7 +1,7 @@
 -- Header, body and CRC one behind the other are the PDU; one that doesn't fit leaves the buffer as it was. Assumes nothing.
 use native.Mathlib.Omega.{arith}
 use Rattle.pdu_write_header.proofs.Frame.{refused, written}
-use Rattle.rules.specs.Layout.{pduLength}
+use Rattle.rules_pdu.specs.Layout.{pduLength}
 use borrow.Author.Needs.{needs}
 use Rattle.pdu.proofs.file_data.write_file_data.Statement.{statement}
 use Rattle.pdu.proofs.file_data.write_file_data.Tie as tie

@@ -2,7 +2,7 @@
 -- Assumes nothing.
 use Rattle.basis.proofs.Pick.{picks}
 use Rattle.basis.specs.Bytes.{byte}
-use Rattle.rules.specs.Reading.{bodyOf}
+use Rattle.rules_pdu.specs.Reading.{bodyOf}
 use borrow.Author.Needs.{needs}
 use Rattle.pdu_read.proofs.directive.body_in.Statement.{statement}
 use Rattle.pdu_read.proofs.directive.body_in.Tie as tie

@@ -1,7 +1,7 @@
 -- Each arm of the match is the definition at its code; the last, at none of the seven.
 -- Assumes nothing.
 use Rattle.basis.proofs.Pick.{picks}
-use Rattle.rules.specs.Reading.{directiveIn}
+use Rattle.rules_pdu.specs.Reading.{directiveIn}
 use borrow.Author.Needs.{needs}
 use Rattle.pdu_read.proofs.directive.directive_in.Statement.{statement}
 use Rattle.pdu_read.proofs.directive.directive_in.Tie as tie

@@ -2,7 +2,7 @@
 -- Assumes nothing.
 use Rattle.basis.proofs.Pick.{picks, told}
 use Rattle.basis.specs.Bytes.{byte}
-use Rattle.rules.specs.Reading.{ackIn}
+use Rattle.rules_pdu.specs.Reading.{ackIn}
 use borrow.Author.Needs.{needs}
 use Rattle.pdu_read_bodies.proofs.ack.ack_in.Statement.{statement}
 use Rattle.pdu_read_bodies.proofs.ack.ack_in.Tie as tie

@@ -1,7 +1,7 @@
 -- Each way through the two tests is a branch of the definition.
 -- Assumes nothing.
 use Rattle.basis.proofs.Pick.{picks}
-use Rattle.rules.specs.Reading.{reserved}
+use Rattle.rules_pdu.specs.Reading.{reserved}
 use Rattle.pdu_read_bodies.proofs.condition.is_reserved.Statement.{statement}
 use Rattle.pdu_read_bodies.proofs.condition.is_reserved.Tie as tie
 

@@ -3,7 +3,7 @@
 use mathlib.Core.Path.{_≡_, _∙_, ap}
 use Prim.Native.Nat.{_-_}
 use lib.ListN.{length, drop, drop-of-length-le}
-use Rattle.rules.specs.Reading.{atType, tlvAfter, closed, areTlvs}
+use Rattle.rules_pdu.specs.Reading.{atType, tlvAfter, closed, areTlvs}
 use Rattle.pdu_read_bodies.specs.Tlv.{meant}
 use Rattle.pdu_read_bodies.proofs.Tlvs.{tlv-step}
 use borrow.Author.Needs.{needs}

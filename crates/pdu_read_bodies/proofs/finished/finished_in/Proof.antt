@@ -2,7 +2,7 @@
 -- Assumes nothing.
 use Rattle.basis.proofs.Pick.{picks, told}
 use Rattle.basis.specs.Bytes.{byte}
-use Rattle.rules.specs.Reading.{finishedIn}
+use Rattle.rules_pdu.specs.Reading.{finishedIn}
 use borrow.Author.Needs.{needs}
 use Rattle.pdu_read_bodies.proofs.finished.finished_in.Statement.{statement}
 use Rattle.pdu_read_bodies.proofs.finished.finished_in.Tie as tie

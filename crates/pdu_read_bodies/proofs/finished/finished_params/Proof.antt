@@ -2,7 +2,7 @@
 -- Assumes nothing.
 use Prim.Native.Nat.{_/_}
 use lib.Bits.{and-mask}
-use Rattle.rules.specs.Reading.{finishedParams}
+use Rattle.rules_pdu.specs.Reading.{finishedParams}
 use Rattle.pdu_read_bodies.proofs.finished.finished_params.Statement.{statement}
 use Rattle.pdu_read_bodies.proofs.finished.finished_params.Tie as tie
 

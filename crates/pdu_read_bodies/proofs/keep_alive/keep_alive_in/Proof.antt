@@ -1,7 +1,7 @@
 -- The definition, said by the width that the callee gave, is the test that the code made.
 -- Assumes nothing.
 use Rattle.basis.proofs.Pick.{picks}
-use Rattle.rules.specs.Reading.{keepAliveIn}
+use Rattle.rules_pdu.specs.Reading.{keepAliveIn}
 use borrow.Author.Needs.{needs}
 use Rattle.pdu_read_bodies.proofs.keep_alive.keep_alive_in.Statement.{statement}
 use Rattle.pdu_read_bodies.proofs.keep_alive.keep_alive_in.Tie as tie

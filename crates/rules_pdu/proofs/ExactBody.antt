@@ -15,17 +15,17 @@ use Rattle.basis.specs.Pick.{pick}
 use Rattle.basis.specs.Bytes.{be, num, part, byte, numAt, Bytes}
 use Rattle.basis.proofs.Pick.{cases}
 use Rattle.basis.proofs.Bytes.{be-num, num-lt}
-use Rattle.rules.specs.Fields.{wire}
-use Rattle.rules.specs.Numbers.{F}
-use Rattle.rules.specs.Layout.{ackFinished, finished, ackEof, nak, keepAlive, layout, layoutHeard, tlvFields, requestFields}
-use Rattle.rules.specs.Reading.{reserved, areTlvs, finishedParams, finishedIn, ackIn, requestCount, nakIn, keepAliveIn, directiveIn}
-use Rattle.rules.specs.PduLaws.{GoodTlvs, RequestsFit, Tlvs, end, tlv, cleared, ByLayout, heard, ofFinished, unread, BodyExactly, ReservedExactly}
+use Rattle.rules_pdu.specs.Fields.{wire}
+use Rattle.rules_pdu.specs.Numbers.{F}
+use Rattle.rules_pdu.specs.Layout.{ackFinished, finished, ackEof, nak, keepAlive, layout, layoutHeard, tlvFields, requestFields}
+use Rattle.rules_pdu.specs.Reading.{reserved, areTlvs, finishedParams, finishedIn, ackIn, requestCount, nakIn, keepAliveIn, directiveIn}
+use Rattle.rules_pdu.specs.PduLaws.{GoodTlvs, RequestsFit, Tlvs, end, tlv, cleared, ByLayout, heard, ofFinished, unread, BodyExactly, ReservedExactly}
 use Rattle.types.specs.declared.SegmentRequest.{SegmentRequest}
 use Rattle.types.specs.declared.Meaning.the-variants.{Finished, AckOfEof, Nak, KeepAlive}
 use Rattle.types.specs.declared.Body.{Body}
 use Rattle.types.specs.declared.Body.the-variants.{Malformed, CantProcess, Means}
-use Rattle.rules.proofs.Places.{At, at-start, past, byte-at, whole-length}
-use Rattle.rules.proofs.Heard.{tlvs-exactly, one-byte, heard-body}
+use Rattle.rules_pdu.proofs.Places.{At, at-start, past, byte-at, whole-length}
+use Rattle.rules_pdu.proofs.Heard.{tlvs-exactly, one-byte, heard-body}
 
 pub reserved-exactly : ReservedExactly
 unfolding reserved

@@ -9,7 +9,7 @@ use lib.ListN.{length, take, drop, getD, length-append}
 use lib.Seq.{drop-drop, take-append-seam, drop-append-seam, getD-drop}
 use Rattle.basis.specs.Bytes.{be, num, part, byte, numAt}
 use Rattle.basis.proofs.Bytes.{length-be, num-be}
-use Rattle.rules.specs.Fields.{Field, nat, raw, bytesOf, size, wire, sizes}
+use Rattle.rules_pdu.specs.Fields.{Field, nat, raw, bytesOf, size, wire, sizes}
 
 pub length-field : (f : Field) → length (bytesOf f) ≡ size f
 length-field (nat w v) = length-be w v

@@ -11,12 +11,12 @@ use lib.Dec.{eqb}
 use lib.ListN.{length, take, set}
 use Rattle.basis.specs.Pick.{pick}
 use Rattle.basis.specs.Bytes.{byte, numAt, Bytes}
-use Rattle.rules.specs.Fields.{wire}
-use Rattle.rules.specs.Numbers.{goodWidth, H, F, C}
+use Rattle.rules_pdu.specs.Fields.{wire}
+use Rattle.rules_pdu.specs.Numbers.{goodWidth, H, F, C}
 use Rattle.rules_leaves.specs.Checksum.{crc16}
-use Rattle.rules.specs.Layout.{Said, metadata, fileData, eof, ackFinished, Heard, finished, ackEof, nak, keepAlive, Pdu, headBytes, layout, layoutHeard, trailer, encode, encodeHeard, pduLength}
-use Rattle.rules.specs.Reading.{reserved, lengthIn, frameIn, framedIn, headIn, hIn, bodyIn, bodyOf, areTlvs, directiveIn, requestsFrom}
-use Rattle.rules.specs.Decoding.{decode, isEofIn}
+use Rattle.rules_pdu.specs.Layout.{Said, metadata, fileData, eof, ackFinished, Heard, finished, ackEof, nak, keepAlive, Pdu, headBytes, layout, layoutHeard, trailer, encode, encodeHeard, pduLength}
+use Rattle.rules_pdu.specs.Reading.{reserved, lengthIn, frameIn, framedIn, headIn, hIn, bodyIn, bodyOf, areTlvs, directiveIn, requestsFrom}
+use Rattle.rules_pdu.specs.Decoding.{decode, isEofIn}
 use Rattle.types.specs.declared.Head.{Head}
 use Rattle.types.specs.declared.Frame.{Frame}
 use Rattle.types.specs.declared.Framed.{Framed}

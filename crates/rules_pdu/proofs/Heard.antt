@@ -13,16 +13,16 @@ use lib.Dec.{eqb, ltb}
 use borrow.Author.Tests.{eqb-true, eq-eqb, ne-eqb, le-ltb}
 use Rattle.basis.specs.Bytes.{be, byte}
 use Rattle.basis.proofs.Pick.{cases}
-use Rattle.rules.specs.Fields.{Field, wire, sizes}
-use Rattle.rules.specs.Numbers.{H, F}
-use Rattle.rules.specs.Layout.{Heard, finished, ackEof, nak, keepAlive, tlvFields, requestFields, layoutHeard, encodeHeard}
-use Rattle.rules.specs.Reading.{Tlv, atType, atLength, inValue, broken, valueOf, tlvNext, tlvAfter, closed, areTlvs, finishedParams, finishedIn, ackIn, requestCount, nakIn, keepAliveIn, directiveIn, bodyOf, requestAt, requestsFrom, frameIn, framedIn}
-use Rattle.rules.specs.PduLaws.{GoodTlvs, RequestsFit, Hearable, meaningOf, requestsOf, firstPair, HeardRead, Tlvs, end, tlv, TlvsExactly}
+use Rattle.rules_pdu.specs.Fields.{Field, wire, sizes}
+use Rattle.rules_pdu.specs.Numbers.{H, F}
+use Rattle.rules_pdu.specs.Layout.{Heard, finished, ackEof, nak, keepAlive, tlvFields, requestFields, layoutHeard, encodeHeard}
+use Rattle.rules_pdu.specs.Reading.{Tlv, atType, atLength, inValue, broken, valueOf, tlvNext, tlvAfter, closed, areTlvs, finishedParams, finishedIn, ackIn, requestCount, nakIn, keepAliveIn, directiveIn, bodyOf, requestAt, requestsFrom, frameIn, framedIn}
+use Rattle.rules_pdu.specs.PduLaws.{GoodTlvs, RequestsFit, Hearable, meaningOf, requestsOf, firstPair, HeardRead, Tlvs, end, tlv, TlvsExactly}
 use Rattle.types.specs.declared.Head.{Head}
 use Rattle.types.specs.declared.SegmentRequest.{SegmentRequest}
 use Rattle.types.specs.declared.Body.the-variants.{Means}
-use Rattle.rules.proofs.Places.{At, at-start, past, num-at, byte-at, whole-length, opened, length-wire}
-use Rattle.rules.proofs.Round.{pdu-frames, filedata-read, tosender-read, head-read, behind-head, body-read, well-framed-read}
+use Rattle.rules_pdu.proofs.Places.{At, at-start, past, num-at, byte-at, whole-length, opened, length-wire}
+use Rattle.rules_pdu.proofs.Round.{pdu-frames, filedata-read, tosender-read, head-read, behind-head, body-read, well-framed-read}
 
 -- ---- TLVs: what the grammar derives, the test takes
 

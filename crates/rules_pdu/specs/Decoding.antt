@@ -9,9 +9,9 @@ use lib.ListN.{length, drop}
 use lib.Dec.{eqb, leb}
 use Rattle.basis.specs.Pick.{pick}
 use Rattle.basis.specs.Bytes.{part, byte, numAt}
-use Rattle.rules.specs.Numbers.{F}
-use Rattle.rules.specs.Layout.{Said, metadata, fileData, eof, ackFinished, Pdu}
-use Rattle.rules.specs.Reading.{bitIn, wellFramed, headIn, fileDataIn, toSenderIn, largeIn, hIn, bodyIn}
+use Rattle.rules_pdu.specs.Numbers.{F}
+use Rattle.rules_pdu.specs.Layout.{Said, metadata, fileData, eof, ackFinished, Pdu}
+use Rattle.rules_pdu.specs.Reading.{bitIn, wellFramed, headIn, fileDataIn, toSenderIn, largeIn, hIn, bodyIn}
 use Rattle.types.specs.declared.Head.{Head}
 
 -- 7 Metadata: "reserved 1, closure 1, reserved 2, checksum type 4; size F; source name, destination name, each behind one length byte"

@@ -7,11 +7,11 @@ use mathlib.Core.Option.{none, some}
 use Prim.Native.Nat.{ℕ}
 use lib.ListN.{length}
 use Rattle.basis.specs.Bytes.{be, num, part, byte, numAt}
-use Rattle.rules.specs.Numbers.{goodWidth}
+use Rattle.rules_pdu.specs.Numbers.{goodWidth}
 use Rattle.rules_leaves.specs.Checksum.{crc16, crc16Byte}
-use Rattle.rules.specs.Layout.{metadata, fileData, eof, ackFinished, Pdu, headBytes, trailer, pduBytes, bodyBytes, encode}
-use Rattle.rules.specs.Reading.{bitIn, versionIn, fileDataIn, toSenderIn, unacknowledgedIn, crcIn, largeIn, lengthIn, idWidthIn, seqWidthIn, headIn, crcAgrees, wellFramed, frameIn, framedIn, bodyIn, reserved, areTlvs, finishedParams, finishedIn, ackIn, requestCount, nakIn, keepAliveIn, directiveIn, bodyOf}
-use Rattle.rules.specs.Decoding.{metadataIn, dataIn, eofIn, ackFinishedIn, saidIn, decode}
+use Rattle.rules_pdu.specs.Layout.{metadata, fileData, eof, ackFinished, Pdu, headBytes, trailer, pduBytes, bodyBytes, encode}
+use Rattle.rules_pdu.specs.Reading.{bitIn, versionIn, fileDataIn, toSenderIn, unacknowledgedIn, crcIn, largeIn, lengthIn, idWidthIn, seqWidthIn, headIn, crcAgrees, wellFramed, frameIn, framedIn, bodyIn, reserved, areTlvs, finishedParams, finishedIn, ackIn, requestCount, nakIn, keepAliveIn, directiveIn, bodyOf}
+use Rattle.rules_pdu.specs.Decoding.{metadataIn, dataIn, eofIn, ackFinishedIn, saidIn, decode}
 use Rattle.types.specs.declared.Head.{Head}
 use Rattle.types.specs.declared.Framed.{Framed}
 use Rattle.types.specs.declared.Framed.the-variants.{Malformed as NoFrame, Whole}

@@ -8,8 +8,8 @@ use lib.Dec.{ltb}
 use lib.ListN.{length}
 use Rattle.basis.specs.Pick.{pick, flag}
 use Rattle.basis.specs.Bytes.{be}
-use Rattle.rules.specs.Fields.{Field, nat, raw, wire, sizes}
-use Rattle.rules.specs.Numbers.{H, F, C}
+use Rattle.rules_pdu.specs.Fields.{Field, nat, raw, wire, sizes}
+use Rattle.rules_pdu.specs.Numbers.{H, F, C}
 use Rattle.rules_leaves.specs.Checksum.{crc16}
 use Rattle.types.specs.declared.Head.{Head}
 use Rattle.types.specs.declared.SegmentRequest.{SegmentRequest}

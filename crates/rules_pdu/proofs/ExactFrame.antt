@@ -12,19 +12,19 @@ use borrow.Author.Tests.{eqb-true, ltb-false}
 use Rattle.basis.specs.Pick.{pick, flag}
 use Rattle.basis.specs.Bytes.{be, num, part, byte, numAt, Bytes}
 use Rattle.basis.proofs.Pick.{cases}
-use Rattle.rules.specs.Fields.{Field, nat, raw, wire}
-use Rattle.rules.specs.Numbers.{goodWidth, H, C}
+use Rattle.rules_pdu.specs.Fields.{Field, nat, raw, wire}
+use Rattle.rules_pdu.specs.Numbers.{goodWidth, H, C}
 use Rattle.rules_leaves.specs.Checksum.{crc16}
-use Rattle.rules.specs.Layout.{byte0, byte3, headFields, headBytes, trailer}
-use Rattle.rules.specs.Reading.{bitIn, versionIn, crcIn, lengthIn, idWidthIn, seqWidthIn, endIn, crcAgrees, wellFramed, frameIn, framedIn, bodyIn}
-use Rattle.rules.specs.PduLaws.{Fit, clearedHead, IsPdu, FrameExactly}
+use Rattle.rules_pdu.specs.Layout.{byte0, byte3, headFields, headBytes, trailer}
+use Rattle.rules_pdu.specs.Reading.{bitIn, versionIn, crcIn, lengthIn, idWidthIn, seqWidthIn, endIn, crcAgrees, wellFramed, frameIn, framedIn, bodyIn}
+use Rattle.rules_pdu.specs.PduLaws.{Fit, clearedHead, IsPdu, FrameExactly}
 use Rattle.types.specs.declared.Head.{Head}
 use Rattle.types.specs.declared.Frame.{Frame}
 use Rattle.types.specs.declared.Framed.{Framed}
 use Rattle.types.specs.declared.Framed.the-variants.{Malformed, Whole}
-use Rattle.rules.proofs.Places.{wire-append}
-use Rattle.rules.proofs.Round.{headWith, Frames, good-range, last-two, filedata-read, tosender-read, head-read, h-read, body-end-read, body-read, well-framed-read}
-use Rattle.rules.proofs.ExactBody.{bytes-drop, number}
+use Rattle.rules_pdu.proofs.Places.{wire-append}
+use Rattle.rules_pdu.proofs.Round.{headWith, Frames, good-range, last-two, filedata-read, tosender-read, head-read, h-read, body-end-read, body-read, well-framed-read}
+use Rattle.rules_pdu.proofs.ExactBody.{bytes-drop, number}
 
 -- ---- a PDU is read as it stands
 

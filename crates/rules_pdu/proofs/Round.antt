@@ -16,16 +16,16 @@ use Rattle.basis.specs.Pick.{pick, flag}
 use Rattle.basis.specs.Bytes.{be, part, byte, numAt}
 use Rattle.basis.proofs.Pick.{cases, flag-lt, eqb-flag}
 use Rattle.basis.proofs.Bytes.{length-be, num-be}
-use Rattle.rules.specs.Fields.{Field, nat, raw, wire}
-use Rattle.rules.specs.Numbers.{goodWidth, H, F, C, isLarge}
+use Rattle.rules_pdu.specs.Fields.{Field, nat, raw, wire}
+use Rattle.rules_pdu.specs.Numbers.{goodWidth, H, F, C, isLarge}
 use Rattle.rules_leaves.specs.Checksum.{crc16}
-use Rattle.rules.specs.Layout.{Said, metadata, fileData, eof, ackFinished, byte0, byte3, headFields, headBytes, layout, trailer, pduBytes, isFileData, Pdu, bodyBytes, encode, pduLength}
-use Rattle.rules.specs.Reading.{bitIn, versionIn, fileDataIn, toSenderIn, unacknowledgedIn, crcIn, largeIn, lengthIn, idWidthIn, seqWidthIn, headIn, hIn, endIn, crcAgrees, wellFramed, bodyEnd, bodyIn}
-use Rattle.rules.specs.Decoding.{metadataIn, dataIn, eofIn, ackFinishedIn, saidIn, withHead, decode, isEofIn, fileDataOf}
-use Rattle.rules.specs.PduLaws.{Fit, Sayable, RoundTrip, SameBytes, CrcChecks, LengthAgrees, HeadersDiffer, WidthsExactly}
+use Rattle.rules_pdu.specs.Layout.{Said, metadata, fileData, eof, ackFinished, byte0, byte3, headFields, headBytes, layout, trailer, pduBytes, isFileData, Pdu, bodyBytes, encode, pduLength}
+use Rattle.rules_pdu.specs.Reading.{bitIn, versionIn, fileDataIn, toSenderIn, unacknowledgedIn, crcIn, largeIn, lengthIn, idWidthIn, seqWidthIn, headIn, hIn, endIn, crcAgrees, wellFramed, bodyEnd, bodyIn}
+use Rattle.rules_pdu.specs.Decoding.{metadataIn, dataIn, eofIn, ackFinishedIn, saidIn, withHead, decode, isEofIn, fileDataOf}
+use Rattle.rules_pdu.specs.PduLaws.{Fit, Sayable, RoundTrip, SameBytes, CrcChecks, LengthAgrees, HeadersDiffer, WidthsExactly}
 use Rattle.types.specs.declared.Head.{Head}
 use Rattle.types.specs.declared.EntityId.{EntityId}
-use Rattle.rules.proofs.Places.{At, at-start, past, part-at, num-at, byte-at, rest-at, whole-length, opened, length-wire}
+use Rattle.rules_pdu.proofs.Places.{At, at-start, past, part-at, num-at, byte-at, rest-at, whole-length, opened, length-wire}
 use Rattle.rules_leaves.proofs.Sums.{crc16-lt}
 
 -- ---- the header
