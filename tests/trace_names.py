@@ -1,5 +1,5 @@
 #!/usr/bin/env python3
-"""Holds the names in docs/TRACE.md and docs/OPEN.md to the tree: every must-fail edit `crate/label` and every function `crate::name` must be there.
+"""Holds the names in docs/TRACE.md, OPEN.md, DECISIONS.md and CHECKTIME.md to the tree: every must-fail edit `crate/label` and every function `crate::name` must be there.
 
     python3 tests/trace_names.py
 
@@ -26,7 +26,7 @@ def functions(crate):
 def main():
     have = {'/': {c: edits(c) for c in CRATES}, '::': {c: functions(c) for c in CRATES}}
     seen, missing = 0, 0
-    for doc in ('TRACE.md', 'OPEN.md'):
+    for doc in ('TRACE.md', 'OPEN.md', 'DECISIONS.md', 'CHECKTIME.md'):
         with open(os.path.join(ROOT, 'docs', doc), encoding='utf-8') as f:
             text = f.read()
         names = sorted(set(re.findall(r'\b(%s)(/|::)(\w+)\b(?![./])' % '|'.join(CRATES), text)))

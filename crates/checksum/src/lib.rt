@@ -1,4 +1,4 @@
-// The checksums of filestore.rs over bytes that are lent, and the CRC-16 that closes a PDU: each equal to its definition in `rules`.
+// The checksums of filestore.rs over bytes that are lent, and the CRC-16 that closes a PDU: each equal to its definition in `rules_leaves`.
 // They are total: any type, any bytes, any number of bytes asked for.
 use types::Checksum;
 ghost use mathlib.Core.Path.{_≡_};

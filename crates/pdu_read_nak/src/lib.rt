@@ -1,3 +1,4 @@
+// A NAK's body and its requests read: any bytes are taken, and each function is equal to its definition (`rules_pdu`; the reader's in specs/).
 // 8 NAK: scope start, scope end, then pairs start, end, F bytes each; the scope is not judged.
 use pdu_read_header::field::num_of;
 use pdu_read_header::field::size_width;

@@ -1,4 +1,4 @@
--- "Checksums over the first n bytes": 0 modular, 2 CRC-32C, 3 CRC-32, 15 null; and the CRC-16 that closes a PDU.
+-- "Checksums over the first n bytes": 0 modular, 2 CRC-32C, 3 CRC-32, 15 null; and the CRC-16 that closes a PDU. Proof: proofs/Sums.antt.
 -- Assumes nothing.
 use mathlib.Core.Path.{_≡_}
 use mathlib.Core.Bool.{Bool, true, false}

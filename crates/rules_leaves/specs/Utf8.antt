@@ -1,4 +1,4 @@
--- "UTF-8 by RFC 3629": the grammar of its section 4, and the test that a put makes.
+-- "UTF-8 by RFC 3629": the grammar of its section 4, and the test that a put makes. Proof: proofs/Utf8.antt.
 -- Assumes nothing.
 use mathlib.Core.Path.{_≡_}
 use mathlib.Core.Logic.{_↔_}
@@ -83,7 +83,7 @@ complete broken = false
 unfoldable pub isUtf8 : List ℕ → Bool
 isUtf8 s = complete (dueAfter (wants []) s)
 
--- PROMISE utf8: the test says yes exactly to what the RFC's grammar derives.
+-- PROMISE utf8-exactly: the test says yes exactly to what the RFC's grammar derives.
 abbrev pub Utf8Exactly : Type 0
 Utf8Exactly = (s : List ℕ) → (isUtf8 s ≡ true) ↔ Utf8 s
 

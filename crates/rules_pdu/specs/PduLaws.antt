@@ -106,7 +106,7 @@ requestsOf (keepAlive p) = []
 abbrev pub firstPair : Head → ℕ
 firstPair h = H h + 1 + F (h .large) + F (h .large)
 
--- LAW heard: whatever a peer writes by the layouts is not refused, and has the meaning, and the requests, that the peer gave it.
+-- LAW heard-read: whatever a peer writes by the layouts is not refused, and has the meaning, and the requests, that the peer gave it.
 abbrev pub HeardRead : Type 0
 HeardRead =
     (h : Head) (m : Heard) → Fit h → Hearable (h .large) m → length (wire (layoutHeard (h .large) m)) + C (h .crc) < 65536
@@ -120,7 +120,7 @@ pub data Tlvs : List ℕ → Type 0 where
   end : Tlvs []
   tlv : {t : ℕ} {s : List ℕ} → (t ≡ 1) ⊎ (t ≡ 6) → (value : List ℕ) → Tlvs s → Tlvs (t ∷ length value ∷ (value ++ s))
 
--- LAW tlvs: the test of a Finished PDU's end says yes exactly to runs of TLVs of type 1 and 6, each closing inside the body.
+-- LAW tlvs-exactly: the test of a Finished PDU's end says yes exactly to runs of TLVs of type 1 and 6, each closing inside the body.
 abbrev pub TlvsExactly : Type 0
 TlvsExactly = (s : List ℕ) → (areTlvs s ≡ true) ↔ Tlvs s
 
@@ -139,18 +139,18 @@ pub data ByLayout (large : Bool) (b : List ℕ) : Body → Type 0 where
   ofFinished : (c t : ℕ) → Sayable large (ackFinished c t) → reserved c ≡ false → wire (layout large (ackFinished c t)) ≡ cleared b → ByLayout large b CantProcess
   unread : (code : ℕ) (rest : List ℕ) → (code ≡ 4) ⊎ (code ≡ 7) ⊎ (code ≡ 9) → code ∷ rest ≡ b → ByLayout large b CantProcess
 
--- LAW body: a body is Malformed exactly if the layouts give it nothing, and else comes to what they give.
+-- LAW body-exactly: a body is Malformed exactly if the layouts give it nothing, and else comes to what they give.
 abbrev pub BodyExactly : Type 0
 BodyExactly =
     (large : Bool) (b : List ℕ) → Bytes b
     → ((directiveIn large (byte b 0) b ≡ Malformed) ↔ ((r : Body) → ByLayout large b r → ⊥))
     × ((r : Body) → ByLayout large b r → directiveIn large (byte b 0) b ≡ r)
 
--- LAW widths: "width 1, 2, 4 or 8 bytes"
+-- LAW widths-exactly: "width 1, 2, 4 or 8 bytes"
 abbrev pub WidthsExactly : Type 0
 WidthsExactly = (w : ℕ) → (goodWidth w ≡ true) ↔ ((w ≡ 1) ⊎ (w ≡ 2) ⊎ (w ≡ 4) ⊎ (w ≡ 8))
 
--- LAW reserved: "Conditions 12 and 13 are reserved"
+-- LAW reserved-exactly: "Conditions 12 and 13 are reserved"
 abbrev pub ReservedExactly : Type 0
 ReservedExactly = (c : ℕ) → (reserved c ≡ true) ↔ ((c ≡ 12) ⊎ (c ≡ 13))
 
@@ -168,7 +168,7 @@ pub record IsPdu (s : List ℕ) (f : Frame) (body : List ℕ) : Type 0 where
   pub starts : f .start ≡ H (f .head)
   pub ends : f .end ≡ H (f .head) + length body
 
--- LAW frame: bytes are Malformed exactly if they are no PDU by the layouts; else their header, frame and body are read as they stand.
+-- LAW frame-exactly: bytes are Malformed exactly if they are no PDU by the layouts; else their header, frame and body are read as they stand.
 abbrev pub FrameExactly : Type 0
 FrameExactly =
     (s : List ℕ) → Bytes s

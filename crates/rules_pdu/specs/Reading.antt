@@ -112,7 +112,7 @@ reserved condition = pick (eqb condition 12) true (eqb condition 13)
 
 -- 5 Finished: "condition 4, spare 1, delivery 1, file status 2; then TLVs of type 1 or 6, each length closing inside the body"
 
--- where a run of TLVs stands: at a type, at a length, inside a value with so many bytes to come, or broken
+-- where a run of TLVs stands: at a type, at a length, inside a value with so many bytes to come behind the next one, or broken
 pub data Tlv : Type 0 where
   atType : Tlv
   atLength : Tlv

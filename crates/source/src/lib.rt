@@ -1,6 +1,6 @@
 // The sending handler: six calls over one state that goes in by value and comes back by value. Each takes any state value, any bytes and any
 // numbers, in any order, and returns; its contract is one relation of crate `rules` and nothing beside it, so what is proved of the relations holds of
-// these calls. The parts stand in crates of their own: source_queue, source_put, source_deliver, source_due, source_step.
+// these calls. The code stands in crates of its own, `source_` and a word; the calls here are those of source_put, source_deliver and source_step.
 ghost use mathlib.Core.Path.{_≡_};
 ghost use Rattle.rules.specs.Calls.{PutMeets, DeliverMeets, StepMeets, CancelMeets, ResetMeets, NewMeets};
 ghost use Rattle.rules.specs.Refusals.{refusalNo, answerNo};

@@ -1,4 +1,4 @@
-// What a put asks of its ids and of the configuration.
+// What a put asks of its ids, of the configuration, and of the names' lengths.
 use source_numbers::fits;
 use types::EntityId;
 use types::LocalEntityConfig;

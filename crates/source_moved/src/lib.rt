@@ -1,4 +1,4 @@
-// What a PDU moves.
+// What an ACK of EOF or a Finished PDU does to the state.
 use source_state::to_step;
 use types::FinishedParams;
 use types::Meaning;
@@ -11,14 +11,14 @@ ghost use Rattle.rules.specs.States.{toStep};
 ghost use Rattle.rules.specs.Deliver.{finishedOf, movedBy};
 ghost use Rattle.types.specs.declared.TransactionStep.the-variants.{WaitingForFinished};
 
-// Of EOF.
+// An ACK of EOF: a Finished PDU is waited for.
 fn handle_ack_pdu(s: State) -> State
     ensures { λ r. ⌜ r ≡ toStep s WaitingForFinished ⌝ }
 {
     to_step(s, TransactionStep::WaitingForFinished)
 }
 
-// The queue and an owed EOF are dropped.
+// A Finished PDU: closing; the queue and an owed EOF are dropped.
 fn handle_finished_pdu(s: State, p: FinishedParams) -> State
     ensures { λ r. ⌜ r ≡ finishedOf s p ⌝ }
 {

@@ -1,4 +1,4 @@
-// The requests of a NAK, read from the delivered bytes one pair after another. A pair past the end is (0, 0) wherever it stands, so a
+// The requests of a NAK, read from the delivered bytes one pair after another: once to be judged, once to be stored behind the queue. A pair past the end is (0, 0) wherever it stands, so a
 // place that would lie behind the end stays at it.
 use fields::bit_of;
 use pdu_read_nak::request_from;

@@ -1,4 +1,4 @@
-// The types that document 01 speaks of. What is right of them is said in `rules`; no code runs here.
+// The types that document 01 speaks of. What is right of them is said in `rules` and `rules_pdu`; no code runs here.
 
 // ---- Numbers
 

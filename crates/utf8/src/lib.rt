@@ -1,4 +1,4 @@
-// UTF-8 by RFC 3629, one byte at a time. What each state stands for is said in specs/ by the ranges that the grammar still wants there,
+// UTF-8 by RFC 3629, one byte at a time. What each state stands for is said in specs/ by the ranges that the grammar (`rules_leaves`, Utf8) still wants there,
 // and each step is proved to be the grammar's.
 ghost use mathlib.Core.Path.{_≡_};
 ghost use Rattle.basis.specs.Pick.{pick};
