@@ -4,7 +4,8 @@ use types::Checksum;
 ghost use mathlib.Core.Path.{_≡_};
 ghost use Prim.Native.Nat.{_+_, _<_};
 ghost use lib.ListN.{length, take, getD};
-ghost use Rattle.rules_leaves.specs.Checksum.{word, modular, reversed, crcBit, crcByte, crcFrom, crc32, checksumOf, sumOf, crc16Bit, crc16Byte, crc16};
+ghost use Rattle.rules_leaves.specs.Checksum.{word, modular, reversed, crcBit, crcBits, crcFrom, crc32, checksumOf, sumOf, crc16};
+ghost use Rattle.checksum.specs.Fours.{fours};
 
 // ---- type 0: the modular checksum
 
@@ -55,22 +56,38 @@ fn crc_bit(p: u32, c: u32) -> u32
     if c % 2 == 1 { (c >> 1) ^ p } else { c >> 1 }
 }
 
-fn crc_byte(p: u32, c: u32, b: u8) -> u32
-    ensures { λ r. ⌜ r ≡ crcByte p c b ⌝ }
+fn crc_four(p: u32, c: u32) -> u32
+    ensures { λ r. ⌜ r ≡ crcBits p 4 c ⌝ }
 {
-    let c0 = c ^ (b as u32);
-    let c1 = crc_bit(p, crc_bit(p, crc_bit(p, crc_bit(p, c0))));
-    crc_bit(p, crc_bit(p, crc_bit(p, crc_bit(p, c1))))
+    crc_bit(p, crc_bit(p, crc_bit(p, crc_bit(p, c))))
 }
 
-// From what the CRC was after the bytes before these.
+// What four bits come to, for each of the sixteen that they can be.
+fn fours(p: u32) -> [u32; 16]
+    ensures { λ r. ⌜ r ≡ fours p ⌝ }
+{
+    let mut t = [0u32; 16];
+    let mut i = 0;
+    while i < 16 {
+        t[i] = crc_four(p, i as u32);
+        i += 1;
+    }
+    t
+}
+
+// From what the CRC was after the bytes before these. A byte goes four bits at a time: those that fall out pick what is added to the rest.
 fn crc_from(p: u32, start: u32, s: &[u8]) -> u32
     ensures { λ r. ⌜ r ≡ crcFrom p start (now (s .entry)) ⌝ }
 {
+    let t = fours(p);
     let mut c = start;
     let mut i = 0;
     while i < s.len() {
-        c = crc_byte(p, c, s[i]);
+        let x = c ^ (s[i] as u32);
+        let low = (x % 16) as usize;
+        let y = (x >> 4) ^ t[low];
+        let high = (y % 16) as usize;
+        c = (y >> 4) ^ t[high];
         i += 1;
     }
     c
@@ -119,31 +136,24 @@ pub fn sum_of(kind: u8, file: &[u8], n: usize) -> u32
 
 // ---- CRC-16, not reflected
 
-fn crc16_bit(c: u16) -> u16
-    ensures { λ r. ⌜ r ≡ crc16Bit c ⌝ }
-{
-    if c < 0x8000 {
-        c << 1
-    } else {
-        (c << 1) ^ 0x1021
-    }
-}
+// What the four highest bits come to, for each of the sixteen that they can be.
+const FOURS_16: [u16; 16] = [
+    0x0000, 0x1021, 0x2042, 0x3063, 0x4084, 0x50A5, 0x60C6, 0x70E7, 0x8108, 0x9129, 0xA14A, 0xB16B,
+    0xC18C, 0xD1AD, 0xE1CE, 0xF1EF,
+];
 
-fn crc16_byte(c: u16, b: u8) -> u16
-    ensures { λ r. ⌜ r ≡ crc16Byte c b ⌝ }
-{
-    let c0 = c ^ ((b as u16) * 256);
-    let c1 = crc16_bit(crc16_bit(crc16_bit(crc16_bit(c0))));
-    crc16_bit(crc16_bit(crc16_bit(crc16_bit(c1))))
-}
-
+// A byte goes four bits at a time, as above; here they fall out at the top.
 pub fn crc16(s: &[u8]) -> u16
     ensures { λ r. ⌜ r ≡ crc16 (now (s .entry)) ⌝ }
 {
     let mut c: u16 = 0xFFFF;
     let mut i = 0;
     while i < s.len() {
-        c = crc16_byte(c, s[i]);
+        let x = c ^ ((s[i] as u16) * 256);
+        let first = ((x >> 12) % 16) as usize;
+        let y = (x << 4) ^ FOURS_16[first];
+        let second = ((y >> 12) % 16) as usize;
+        c = (y << 4) ^ FOURS_16[second];
         i += 1;
     }
     c

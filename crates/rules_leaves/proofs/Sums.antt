@@ -124,11 +124,11 @@ crc16Bit-lt c =
     let m : c * 2 % 65536 < 65536 = omega arith in
     pick-lt (ltb c 0x8000) _ _ _ m (xor-lt 16 (c * 2 % 65536) 0x1021 m (omega arith))
 
-crc16Bits-lt : (n c : ℕ) → c < 65536 → crc16Bits n c < 65536
+pub crc16Bits-lt : (n c : ℕ) → c < 65536 → crc16Bits n c < 65536
 crc16Bits-lt zero c h = h
 crc16Bits-lt (suc n) c h = crc16Bits-lt n (crc16Bit c) (crc16Bit-lt c)
 
-crc16Byte-lt : (c b : ℕ) → crc16Byte c b < 65536
+pub crc16Byte-lt : (c b : ℕ) → crc16Byte c b < 65536
 unfolding crc16Byte
 crc16Byte-lt c b = crc16Bits-lt 7 (crc16Bit (bitXor c (b * 256))) (crc16Bit-lt (bitXor c (b * 256)))
 
