@@ -3,8 +3,8 @@
 
     .ci/run > gate.log; python3 tests/gate_parts.py gate.log
 
-Each crate's proof and each must-fail edit is printed by `rt` with its seconds by the clock, and .ci/run lets four run at a time: a part's share is the quarter of its
-sum. The shares add up to less than the gate's time, because `rt` waits for all that it started before it starts more.
+Each crate's proof and each must-fail edit is printed by `rt` with its seconds by the clock, and .ci/run lets eight run at a time: a part's share is the eighth of its
+sum. `rt` waits for all that it started before it starts more, so fewer run at times, and the shares add up to less than the gate's time.
 """
 import re, sys
 
@@ -34,8 +34,8 @@ def main():
             count[part(m[1])] += 1
     print('| Part | Proofs and runs | Must-fail edits | Share of the gate |\n|---|---|---|---|')
     for (name, _), p, e, n in zip(PARTS, proofs, edits, count):
-        print(f'| {name} | {p} s | {n} in {e} s | {(p + e) / 240:.1f} min |')
-    print(f'| all | {sum(proofs)} s | {sum(count)} in {sum(edits)} s | {(sum(proofs) + sum(edits)) / 240:.1f} min |')
+        print(f'| {name} | {p} s | {n} in {e} s | {(p + e) / 480:.1f} min |')
+    print(f'| all | {sum(proofs)} s | {sum(count)} in {sum(edits)} s | {(sum(proofs) + sum(edits)) / 480:.1f} min |')
 
 
 main()

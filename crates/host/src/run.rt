@@ -48,7 +48,7 @@ fn put_call(s: State, calls: &[u8], at: usize, answers: &mut [u8], put: usize) -
     let a = d.answer;
     let t = d.state;
     let p = write::add(answers, put, 1, 1);
-    let p2 = write::add(answers, p, 1, fields::wide(source::answer_no(a)));
+    let p2 = write::add(answers, p, 1, fields::wide(source_answers::answer_no(a)));
     stopped(t, end, p2, 0)
 }
 
@@ -66,7 +66,7 @@ fn deliver_call(s: State, calls: &[u8], at: usize, answers: &mut [u8], put: usiz
     let a = d.answer;
     let t = d.state;
     let p = write::add(answers, put, 1, 2);
-    let p2 = write::add(answers, p, 1, fields::wide(source::answer_no(a)));
+    let p2 = write::add(answers, p, 1, fields::wide(source_answers::answer_no(a)));
     stopped(t, read::on(from, n), p2, 0)
 }
 
@@ -104,7 +104,7 @@ fn add_step(answers: &mut [u8], put: usize, d: Stepped, space: &[u8]) -> usize {
     let a = d.answer;
     let n = d.length;
     let p = write::add(answers, put, 1, 3);
-    let p2 = write::add(answers, p, 1, fields::wide(source::answer_no(a)));
+    let p2 = write::add(answers, p, 1, fields::wide(source_answers::answer_no(a)));
     let p3 = write::add(answers, p2, 2, n as u64);
     write::add_bytes(answers, p3, part_of(space, 0, n))
 }

@@ -21,11 +21,11 @@ use denote.Laws.{Is, Tells, Makes}
 use denote.Steps.{only}
 use denote.Struct.Laws as LL
 use Rattle.seam_memory.specs.declared.Handler.{Handler}
-use Rattle.seam_calls.specs.declared.Done.{Done}
+use Rattle.seam_rules.specs.declared.Done.{Done}
 use Rattle.seam_memory.proofs.Handler as H
 use Rattle.seam_memory.proofs.Handler.Laws as H′
-use Rattle.seam_calls.proofs.Done as D
-use Rattle.seam_calls.proofs.Done.Laws as D′
+use Rattle.seam_rules.proofs.Done as D
+use Rattle.seam_rules.proofs.Done.Laws as D′
 
 -- ---- a handler: its type and what it owns in memory
 

@@ -1,7 +1,7 @@
 // The sending handler for C: one handler in memory that the host lends. Each function copies the memory out, makes the call on values (crate `seam_calls`), and
 // stores what comes of it; a refusal stores what was there. Every bit pattern of the memory is a handler, so nothing is asked of the host but the pointers.
 ghost use mathlib.Core.Path.{_≡_};
-ghost use Rattle.seam_calls.specs.Seam.{newDone, putDone, deliverDone, stepDone, stepOut, cancelDone, resetDone};
+ghost use Rattle.seam_rules.specs.Seam.{newDone, putDone, deliverDone, stepDone, stepOut, cancelDone, resetDone};
 use seam_calls::cancel_done;
 use seam_calls::deliver_done;
 use seam_calls::new_done;

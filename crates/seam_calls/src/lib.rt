@@ -1,31 +1,26 @@
 // The six calls on the handler's memory as a value: what is in it is taken out, the call of crate `source` is made, and what comes of it is stored; a refusal
-// leaves all as it was. What each leaves and returns: specs/Seam.antt; what follows: specs/Follows.antt. The C functions are crate `seam`.
+// leaves all as it was. What each leaves and returns is said in `seam_rules`. The C functions are crate `seam`.
 ghost use mathlib.Core.Path.{_≡_};
 ghost use Rattle.rules.specs.Refusals.{answerNo};
-ghost use Rattle.seam_calls.specs.Seam.{stored, byAnswer, byWord, newDone, putDone, deliverDone, stepDone, stepOut, cancelDone, resetDone};
+ghost use Rattle.seam_rules.specs.Seam.{stored, byAnswer, byWord, newDone, putDone, deliverDone, stepDone, stepOut, cancelDone, resetDone};
 use seam_memory::Handler;
 use seam_memory::Report;
 use seam_memory::events;
 use seam_memory::stored::held_of;
 use seam_memory::taken;
+use seam_rules::Done;
 use types::Answer;
 use types::Cancelled;
 use types::EntityId;
 use types::State;
 use types::TransactionSeqNum;
 
-// What a call returns and what is stored.
-pub struct Done {
-    pub code: u32,
-    pub held: Handler,
-}
-
 // ---- What the calls share
 
 fn code_of(a: Answer) -> u32
     ensures { λ r. ⌜ r ≡ answerNo a ⌝ }
 {
-    source::answer_no(a) as u32
+    source_answers::answer_no(a) as u32
 }
 
 // What is accepted is stored beside the configuration, which stays.

@@ -3,14 +3,11 @@
 // these calls. The code stands in crates of its own, `source_` and a word; the calls here are those of source_put, source_deliver and source_step.
 ghost use mathlib.Core.Path.{_≡_};
 ghost use Rattle.rules.specs.Calls.{PutMeets, DeliverMeets, StepMeets, CancelMeets, ResetMeets, NewMeets};
-ghost use Rattle.rules.specs.Refusals.{refusalNo, answerNo};
-use types::Answer;
 use types::Cancelled;
 use types::Done;
 use types::EntityId;
 use types::LocalEntityConfig;
 use types::PutRequest;
-use types::Refusal;
 use types::State;
 use types::Stepped;
 use types::TransactionSeqNum;
@@ -62,38 +59,4 @@ pub fn reset(s: State) -> State
     ensures { λ r. ⌜ ResetMeets s r ⌝ }
 {
     source_step::reset(s)
-}
-
-// Document 01's number of a refusal.
-fn refusal_no(r: Refusal) -> u8
-    ensures { λ n. ⌜ n ≡ refusalNo r ⌝ }
-{
-    match r {
-        Refusal::AlreadyBusy => 1,
-        Refusal::BadIdWidth => 2,
-        Refusal::NoRemoteCfgFound => 3,
-        Refusal::BadConfig => 4,
-        Refusal::BadNameLength => 5,
-        Refusal::SourceFileNotValidUtf8 => 6,
-        Refusal::DestFileNotValidUtf8 => 7,
-        Refusal::PacketLimit => 8,
-        Refusal::Malformed => 20,
-        Refusal::CantProcessPacketType => 21,
-        Refusal::UnexpectedPdu => 22,
-        Refusal::OtherTransaction => 23,
-        Refusal::InvalidNakPdu => 24,
-        Refusal::RetransmitFull => 25,
-        Refusal::FileChanged => 30,
-        Refusal::OutTooSmall => 31,
-    }
-}
-
-// The number of an answer; 0: accepted.
-pub fn answer_no(a: Answer) -> u8
-    ensures { λ n. ⌜ n ≡ answerNo a ⌝ }
-{
-    match a {
-        Answer::Accepted => 0,
-        Answer::Refused(r) => refusal_no(r),
-    }
 }

@@ -121,12 +121,12 @@ fn fault_event(s: State, action: u8, condition: u8) -> FaultEvent
 }
 
 // A fault that sends nothing: ignore or abandon.
-fn fault_only(s: State, action: u8, condition: u8) -> Events
-    ensures { λ r. ⌜ r ≡ events s false false (Fault action condition (s .file .progress)) NotFinished NoTimer ⌝ }
+fn fault_only(s: State, action: u8, condition: u8, timer: TimerEvent) -> Events
+    ensures { λ r. ⌜ r ≡ events s false false (Fault action condition (s .file .progress)) NotFinished timer ⌝ }
 {
     let fault = fault_event(s, action, condition);
     let not_finished = FinishedEvent::NotFinished;
-    noting(s, false, false, fault, not_finished, TimerEvent::NoTimer)
+    noting(s, false, false, fault, not_finished, timer)
 }
 
 pub fn events_of(s: State, d: Due) -> Events
@@ -144,8 +144,8 @@ pub fn events_of(s: State, d: Due) -> Events
         Due::NoErrorEof => eof_sent(s, no_fault, eof_finished(s), eof_timer(s)),
         Due::EofAgain => eof_sent(s, no_fault, not_finished, ack),
         Due::FaultCancel(c) => eof_sent(s, fault_event(s, 1, c), not_finished, ack_timer(s)),
-        Due::FaultIgnore(c) => fault_only(s, 3, c),
-        Due::FaultAbandon(c) => fault_only(s, 4, c),
+        Due::FaultIgnore(c) => fault_only(s, 3, c, no_timer),
+        Due::FaultAbandon(c) => fault_only(s, 4, c, no_timer),
         Due::Close => closed(s),
         Due::Nothing => quiet(s),
     }

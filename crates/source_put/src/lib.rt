@@ -63,7 +63,7 @@ fn put_state(
     let h = head_of(c, e, q, s.number, size);
     let f = fixed_of(c, e, q, h, size);
     let names = names_of(source, destination);
-    started(s.number, f, names)
+    started(s, f, names)
 }
 
 // A put of a file of `size` bytes, of which no byte is read.

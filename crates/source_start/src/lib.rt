@@ -137,12 +137,12 @@ pub fn fixed_of(
     }
 }
 
-// Progress, queue, condition and cancel mark cleared; the number moved on.
-pub fn started(n: TransactionSeqNum, f: Fixed, names: Names) -> State
-    requires { ⌜ goodWidth (n .0) ≡ true ⌝ }
-    ensures { λ r. ⌜ r ≡ started n f names ⌝ }
+// Progress, queue, condition and cancel mark cleared; of the state before only the number stays, moved on.
+pub fn started(s: State, f: Fixed, names: Names) -> State
+    requires { ⌜ goodWidth (s .number .0) ≡ true ⌝ }
+    ensures { λ r. ⌜ r ≡ started (s .number) f names ⌝ }
 {
-    let number = number_after(n);
+    let number = number_after(s.number);
     let eof = Eof {
         condition: 0,
         sum: 0,

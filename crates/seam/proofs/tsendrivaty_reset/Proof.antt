@@ -36,11 +36,11 @@ use denote.Triple.Clauses.{ensured, lasts}
 use denote.Triple.Table.{entered, cited}
 use denote.Triple.Walked.{says, Stays, stay-ref, walkOf, AllGo, goes-ref, Walks, ends-at, walked, walk-meets}
 use denote.Signature.{plain}
-use Rattle.seam_calls.specs.Seam.{resetDone}
+use Rattle.seam_rules.specs.Seam.{resetDone}
 use Rattle.seam_memory.specs.declared.Handler.{Handler}
-use Rattle.seam_calls.specs.declared.Done.{Done}
+use Rattle.seam_rules.specs.declared.Done.{Done}
 use Rattle.seam_memory.proofs.Handler as H
-use Rattle.seam_calls.proofs.Done as D
+use Rattle.seam_rules.proofs.Done as D
 use Rattle.seam.proofs.Walk.{ty, written, reaches, own, exit, coded, row, lent, mach, machs, mach-tells, mach-typed, mach-makes, parts, pair-ty, held-at, Shown, pair-is, pair-typed, held-is, code-fits}
 use Rattle.seam_calls.proofs.reset_done as callee
 use Rattle.seam_calls.proofs.reset_done.Symbol as callee-def

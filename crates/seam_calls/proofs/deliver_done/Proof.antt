@@ -1,6 +1,6 @@
 -- The call of `source` between what is taken and what is stored.
 -- Assumes nothing.
-use Rattle.seam_calls.specs.Seam.{deliverDone}
+use Rattle.seam_rules.specs.Seam.{deliverDone}
 use borrow.Author.Needs.{needs}
 use Rattle.seam_calls.proofs.deliver_done.Statement.{statement}
 use Rattle.seam_calls.proofs.deliver_done.Tie as tie

@@ -1,6 +1,6 @@
 -- The call of `source` between what is taken and what is stored.
 -- Assumes nothing.
-use Rattle.seam_calls.specs.Seam.{newDone}
+use Rattle.seam_rules.specs.Seam.{newDone}
 use borrow.Author.Needs.{needs}
 use Rattle.seam_calls.proofs.new_done.Statement.{statement}
 use Rattle.seam_calls.proofs.new_done.Tie as tie

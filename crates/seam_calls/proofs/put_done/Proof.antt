@@ -1,6 +1,6 @@
 -- The call of `source` between what is taken and what is stored.
 -- Assumes nothing.
-use Rattle.seam_calls.specs.Seam.{putDone}
+use Rattle.seam_rules.specs.Seam.{putDone}
 use borrow.Author.Needs.{needs}
 use Rattle.seam_calls.proofs.put_done.Statement.{statement}
 use Rattle.seam_calls.proofs.put_done.Tie as tie

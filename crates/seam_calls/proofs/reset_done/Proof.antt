@@ -1,6 +1,6 @@
 -- The call of `source` between what is taken and what is stored.
 -- Assumes nothing.
-use Rattle.seam_calls.specs.Seam.{resetDone}
+use Rattle.seam_rules.specs.Seam.{resetDone}
 use borrow.Author.Needs.{needs}
 use Rattle.seam_calls.proofs.reset_done.Statement.{statement}
 use Rattle.seam_calls.proofs.reset_done.Tie as tie

@@ -17,7 +17,7 @@ use Rattle.types.specs.declared.Answer.the-variants.{Accepted, Refused}
 use Rattle.types.specs.declared.Cancelled.{Cancelled}
 use Rattle.seam_memory.specs.declared.Report.{Report}
 use Rattle.seam_memory.specs.declared.Handler.{Handler}
-use Rattle.seam_calls.specs.declared.Done.{Done}
+use Rattle.seam_rules.specs.declared.Done.{Done}
 
 -- ---- the code that is returned, and the memory after the call; the configuration stays
 
