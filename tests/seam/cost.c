@@ -1,6 +1,6 @@
 /* What tests/cost.py measures: `cost CASE N` prepares a case and makes its call N times (0 or 1; the difference of two runs is the call);
- * `cost stack` prints how deep each call goes; `cost size` the bytes of the handler and of its parts. For the stack a
- * call is made on a painted stack, and the paint that is gone is counted, the host's own few bytes with it. */
+ * the cases `pass` and `pass_crc` are a whole pass, from the put to the EOF; `cost stack` prints how deep each call goes; `cost size` the bytes of the
+ * handler and of its parts. For the stack a call is made on a painted stack, and the paint that is gone is counted, the host's own few bytes with it. */
 #include "../../include/tsendrivaty.h"
 
 int printf(const char *, ...);
@@ -9,10 +9,11 @@ void *memset(void *, int, size_t);
 void *memcpy(void *, const void *, size_t);
 
 #define SIZE 64000
+#define PASS (1024 * 1024)
 #define PAINT (256 * 1024)
 
 static struct tsendrivaty_handler h;
-static uint8_t file[SIZE], out[4096];
+static uint8_t file[PASS], out[4096];
 static uint32_t answer;
 
 /* ---- the calls */
@@ -58,6 +59,17 @@ static void nak(uint32_t count) {
     directive(request, 9 + 8 * count);
 }
 
+static void ack_of_eof(void) { directive((const uint8_t[]){6, 0x40, 1}, 3); }
+static void finished(void) { directive((const uint8_t[]){5, 2}, 2); }
+static void keep_alive(void) { directive((const uint8_t[]){12, 0, 0, 0, 9}, 5); }
+
+/* Unacknowledged, without closure: metadata, data, EOF. */
+static void pass(uint8_t crc) {
+    configured(crc, 15, 4096);
+    answer = tsendrivaty_put(&h, 1, 2, 1, 0, (const uint8_t *)"a", 1, (const uint8_t *)"b", 1, PASS);
+    while (!answer && h.step) answer = tsendrivaty_step(&h, file, PASS, 0, out, sizeof out);
+}
+
 /* ---- cases: what comes before the call, and the call */
 
 static void at_data(uint8_t crc, uint8_t checksum, uint64_t segment, size_t size, int steps) {
@@ -71,17 +83,20 @@ static const struct {
     uint8_t crc, checksum;
     uint64_t segment;
     size_t size;
-    int steps;      /* before the call */
-    uint32_t asked; /* requests of a NAK before the call */
-    char call;      /* p put, s step, n deliver of a NAK, r reset, c cancel, m memcpy of a data PDU's bytes */
+    int steps;      /* before the call; -1: no put either */
+    char before;    /* delivered before the call: n NAK of a request, a ACK of EOF */
+    char call;      /* p put, s step, x refused step, n deliver of a NAK, a of an ACK of EOF, f of a Finished PDU, k of a Keep Alive, u of an ACK that is refused, r reset, c cancel, w a whole
+                       pass, m memcpy of a data PDU's bytes */
     uint32_t naks;
 } CASES[] = {
     {"data", 0, 15, 4096, SIZE, 3, 0, 's', 0},       {"data_crc", 1, 15, 4096, SIZE, 3, 0, 's', 0},  {"data_100", 0, 15, 100, SIZE, 3, 0, 's', 0},
-    {"data_1", 0, 15, 1, SIZE, 3, 0, 's', 0},        {"repair", 0, 15, 4096, SIZE, 3, 1, 's', 0},    {"metadata", 0, 15, 4096, SIZE, 0, 0, 's', 0},
+    {"data_1", 0, 15, 1, SIZE, 3, 0, 's', 0},        {"repair", 0, 15, 4096, SIZE, 3, 'n', 's', 0},    {"metadata", 0, 15, 4096, SIZE, 0, 0, 's', 0},
     {"nak_64", 0, 15, 4096, SIZE, 3, 0, 'n', 64},    {"nak_1", 0, 15, 4096, SIZE, 3, 0, 'n', 1},     {"put", 0, 15, 4096, SIZE, -1, 0, 'p', 0},
     {"eof_null", 0, 15, 4096, 4000, 2, 0, 's', 0},   {"eof_modular", 0, 0, 4096, 4000, 2, 0, 's', 0}, {"eof_crc32c", 0, 2, 4096, 4000, 2, 0, 's', 0},
     {"eof_crc32", 0, 3, 4096, 4000, 2, 0, 's', 0},   {"cancel", 0, 15, 4096, SIZE, 3, 0, 'c', 0},    {"reset", 0, 15, 4096, SIZE, 3, 0, 'r', 0},
-    {"refused", 0, 15, 4096, SIZE, 3, 0, 'x', 0},    {"copy", 0, 15, 4096, SIZE, 3, 0, 'm', 0},
+    {"refused", 0, 15, 4096, SIZE, 3, 0, 'x', 0},    {"copy", 0, 15, 4096, SIZE, 3, 0, 'm', 0},      {"ack", 0, 15, 4096, 4000, 3, 0, 'a', 0},
+    {"finished", 0, 15, 4096, 4000, 3, 'a', 'f', 0}, {"keep_alive", 0, 15, 4096, SIZE, 3, 0, 'k', 0}, {"ack_refused", 0, 15, 4096, SIZE, 3, 0, 'u', 0},
+    {"pass", 0, 15, 4096, SIZE, -1, 0, 'w', 0},      {"pass_crc", 1, 15, 4096, SIZE, -1, 0, 'w', 0},
 };
 #define COUNT (sizeof CASES / sizeof CASES[0])
 
@@ -91,7 +106,8 @@ static void prepared(size_t k) {
         configured(CASES[k].crc, CASES[k].checksum, CASES[k].segment);
     else
         at_data(CASES[k].crc, CASES[k].checksum, CASES[k].segment, CASES[k].size, CASES[k].steps);
-    if (CASES[k].asked) nak(CASES[k].asked);
+    if (CASES[k].before == 'n') nak(1);
+    if (CASES[k].before == 'a') ack_of_eof();
 }
 
 static size_t piece = 4085;
@@ -104,6 +120,11 @@ __attribute__((noinline)) static void called(size_t k) {
     case 'c': answer = !tsendrivaty_cancel(&h, 1, 1, 1, 7); break;
     case 'r': answer = tsendrivaty_reset(&h); break;
     case 'x': tsendrivaty_step(&h, file, 1, 0, out, sizeof out); break;
+    case 'a': ack_of_eof(); break;
+    case 'f': finished(); break;
+    case 'k': keep_alive(); break;
+    case 'u': ack_of_eof(); answer = answer != 22; break;
+    case 'w': pass(CASES[k].crc); break;
     case 'm': memcpy(out, file, *(volatile size_t *)&piece); break;
     }
 }
@@ -130,8 +151,6 @@ static void quiet_step(void) { step(0); }
 static void expired_step(void) { step(1); }
 static void nak_of_64(void) { nak(64); }
 static void nak_of_1(void) { nak(1); }
-static void ack_of_eof(void) { directive((const uint8_t[]){6, 0x40, 1}, 3); }
-static void finished(void) { directive((const uint8_t[]){5, 2}, 2); }
 static void cancel(void) { answer = !tsendrivaty_cancel(&h, 1, 1, 1, 7); }
 static void reset(void) { answer = tsendrivaty_reset(&h); }
 

@@ -1,4 +1,4 @@
--- Four bits at a time. What falls out of a CRC depends on its lowest bits alone, and what is added to the rest does not depend on the rest: a step is linear.
+-- A byte at a time. What falls out of a CRC depends on its lowest bits alone, and what is added to the rest does not depend on the rest: a step is linear.
 -- Assumes nothing.
 use mathlib.Core.Path.{_≡_, refl, sym, ap, ap₂, _∙_}
 use mathlib.Core.Bool.{Bool, true, false}
@@ -7,14 +7,14 @@ use Prim.Native.Nat.{ℕ, zero, suc, _+_, _*_, _/_, _%_, _^_, _<_}
 use native.Mathlib.Nat.{zero-add, mul-one, two-pow-succ}
 use native.Mathlib.Omega.{arith}
 use lib.Arith.{bin-ind}
-use lib.Bits.{bitXor, differ, xor-step, xor-shr, xor-mod, xor-block, xor-shifted, xor-comm, xor-lt}
+use lib.Bits.{bitXor, differ, xor-step, xor-shr, xor-mod, xor-block, xor-shifted, xor-comm, xor-lt, xor-zero-r}
 use lib.Dec.{eqb, ltb}
 use borrow.Author.Tests.{ltb-true, ltb-false, lt-ltb, le-ltb}
-use lib.ListN.{getD, length}
+use lib.ListN.{getD}
 use Rattle.basis.specs.Pick.{pick}
 use Rattle.rules_leaves.specs.Checksum.{crcBit, crcBits, crcByte, crc16Bit, crc16Bits, crc16Byte}
 use Rattle.rules_leaves.proofs.Sums.{crc16Bits-lt}
-use Rattle.checksum.specs.Fours.{tabled, fours, fours16}
+use Rattle.checksum.specs.Eights.{tabled, eights, swapped, eights16}
 
 -- ---- exclusive or, digit by digit
 
@@ -78,11 +78,6 @@ bits-linear p (suc n) a x =
 
 -- ---- tables
 
-tabled-long : (f : ℕ → ℕ) (n k : ℕ) → length (tabled f n k) ≡ n
-unfolding tabled
-tabled-long f zero k = refl
-tabled-long f (suc n) k = ap suc (tabled-long f n (suc k))
-
 tabled-at : (f : ℕ → ℕ) (n k i : ℕ) → i < n → getD (tabled f n k) i 0 ≡ f (k + i)
 unfolding tabled
 tabled-at f zero k i h = absurd (omega arith)
@@ -93,28 +88,20 @@ tabled-at f (suc n) k (suc i) h =
     let e : suc k + i ≡ k + suc i = omega arith in
     tabled-at f n (suc k) i (omega arith) ∙ ap f e
 
--- ---- four bits, and a byte
+-- ---- a byte
 
-four-bits : (p x : ℕ) → bitXor (x / 16) (crcBits p 4 (x % 16)) ≡ crcBits p 4 x
-four-bits p x =
-    let e : bitXor (x / 16 * 16) (x % 16) ≡ x = xor-shifted (x / 16) 4 (x % 16) (omega arith) ∙ omega arith in
-    sym (bits-linear p 4 (x / 16) (x % 16)) ∙ ap (crcBits p 4) e
+eight-bits : (p x : ℕ) → bitXor (x / 256) (crcBits p 8 (x % 256)) ≡ crcBits p 8 x
+eight-bits p x =
+    let e : bitXor (x / 256 * 256) (x % 256) ≡ x = xor-shifted (x / 256) 8 (x % 256) (omega arith) ∙ omega arith in
+    sym (bits-linear p 8 (x / 256) (x % 256)) ∙ ap (crcBits p 8) e
 
-pub fours-long : (p : ℕ) → length (fours p) ≡ 16
-unfolding fours
-fours-long p = tabled-long (crcBits p 4) 16 0
+eights-at : (p i : ℕ) → i < 256 → getD (eights p) i 0 ≡ crcBits p 8 i
+unfolding eights
+eights-at p i h = tabled-at (crcBits p 8) 256 0 i h ∙ ap (crcBits p 8) (zero-add i)
 
-pub fours-at : (p i : ℕ) → i < 16 → getD (fours p) i 0 ≡ crcBits p 4 i
-unfolding fours
-fours-at p i h = tabled-at (crcBits p 4) 16 0 i h ∙ ap (crcBits p 4) (zero-add i)
-
-four : (p x : ℕ) → bitXor (x / 16) (getD (fours p) (x % 16) 0) ≡ crcBits p 4 x
-four p x = rw (fours-at p (x % 16) (omega arith)) (four-bits p x)
-
-pub by-fours : (p c b : ℕ) → let x = bitXor c b in let y = bitXor (x / 16) (getD (fours p) (x % 16) 0) in
-    bitXor (y / 16) (getD (fours p) (y % 16) 0) ≡ crcByte p c b
+pub by-eights : (p c b : ℕ) → let x = bitXor c b in bitXor (x / 256) (getD (eights p) (x % 256) 0) ≡ crcByte p c b
 unfolding crcByte
-by-fours p c b = four p (bitXor (bitXor c b / 16) (getD (fours p) (bitXor c b % 16) 0)) ∙ ap (crcBits p 4) (four p (bitXor c b))
+by-eights p c b = rw (eights-at p (bitXor c b % 256) (omega arith)) (eight-bits p (bitXor c b))
 
 -- ---- CRC-16: the bits fall out at the top
 
@@ -166,20 +153,55 @@ four16-linear a x h =
     ∙ bit16-linear (a * 2 * 2 * 2) x3 (omega arith)
     ∙ ap (λ (v : ℕ). bitXor v (crc16Bits 4 x)) e
 
-four16 : (x : ℕ) → x < 65536 → bitXor (x * 16 % 65536) (getD fours16 (x / 4096 % 16) 0) ≡ crc16Bits 4 x
-unfolding fours16
-four16 x h =
-    let f : ℕ → ℕ = λ (k : ℕ). crc16Bits 4 (k * 4096) in
-    let t : getD (tabled f 16 0) (x / 4096) 0 ≡ crc16Bits 4 (x / 4096 * 4096) = tabled-at f 16 0 (x / 4096) (omega arith) ∙ ap f (zero-add (x / 4096)) in
-    let i : x / 4096 % 16 ≡ x / 4096 = omega arith in
-    let s : x * 16 % 65536 ≡ x % 4096 * 16 = omega arith in
-    let e : bitXor (x % 4096) (x / 4096 * 4096) ≡ x = xor-comm (x % 4096) (x / 4096 * 4096) ∙ xor-shifted (x / 4096) 12 (x % 4096) (omega arith) ∙ omega arith in
-    rw (i, t, s) (sym (four16-linear (x % 4096) (x / 4096 * 4096) (omega arith))) ∙ ap (crc16Bits 4) e
+eight16-linear : (a x : ℕ) → a < 256 → crc16Bits 8 (bitXor a x) ≡ bitXor (a * 256) (crc16Bits 8 x)
+eight16-linear a x h =
+    let e : a * 16 * 16 ≡ a * 256 = omega arith in
+    ap (crc16Bits 4) (four16-linear a x (omega arith)) ∙ four16-linear (a * 16) (crc16Bits 4 x) (omega arith) ∙ ap (λ (v : ℕ). bitXor v (crc16Bits 8 x)) e
 
-pub by-fours16 : (c b : ℕ) → c < 65536 → b < 256 → let x = bitXor c (b * 256) in let y = bitXor (x * 16 % 65536) (getD fours16 (x / 4096 % 16) 0) in
-    bitXor (y * 16 % 65536) (getD fours16 (y / 4096 % 16) 0) ≡ crc16Byte c b
-unfolding crc16Byte
-by-fours16 c b h k =
-    let x = bitXor c (b * 256) in
-    let l = xor-lt 16 c (b * 256) h (omega arith) in
-    rw (four16 x l) (four16 (crc16Bits 4 x) (crc16Bits-lt 4 x l))
+-- a byte added to a number below 2 ^ 16 whose bytes are exchanged is added to the number's highest byte
+swap-low : (h v : ℕ) → h < 256 → v < 65536 → swapped (bitXor h (swapped v)) ≡ bitXor (h * 256) v
+unfolding swapped
+swap-low h v k l =
+    let a = v / 256 in
+    let b = v % 256 in
+    let h₀ : h ≡ 0 * 256 + h = omega arith in
+    let h₁ : h * 256 ≡ h * 256 + 0 = omega arith in
+    let v₁ : v ≡ a * 256 + b = omega arith in
+    let e : bitXor h (b * 256 + a) ≡ bitXor 0 b * 256 + bitXor h a = ap (λ (x : ℕ). bitXor x (b * 256 + a)) h₀ ∙ xor-block 8 0 b h a k (omega arith) in
+    let f : bitXor (h * 256) v ≡ bitXor h a * 256 + bitXor 0 b = ap₂ bitXor h₁ v₁ ∙ xor-block 8 h a 0 b (omega arith) (omega arith) in
+    exchanged (bitXor h (b * 256 + a)) (bitXor 0 b) (bitXor h a) e (xor-lt 8 0 b (omega arith) (omega arith)) (xor-lt 8 h a k (omega arith)) ∙ sym f
+  where
+    exchanged : (x u w : ℕ) → x ≡ u * 256 + w → u < 256 → w < 256 → x % 256 * 256 + x / 256 ≡ w * 256 + u
+    exchanged x u w e i j = omega arith
+
+eights16-at : (i : ℕ) → i < 256 → getD eights16 i 0 ≡ swapped (crc16Bits 8 (i * 256))
+unfolding eights16
+eights16-at i h =
+    let f : ℕ → ℕ = λ (k : ℕ). swapped (crc16Bits 8 (k * 256)) in
+    tabled-at f 256 0 i h ∙ ap f (zero-add i)
+
+pub by-eights16 : (c b : ℕ) → c < 65536 → b < 256 → let x = bitXor c b in swapped (bitXor (x / 256) (getD eights16 (x % 256) 0)) ≡ crc16Byte (swapped c) b
+unfolding crc16Byte swapped
+by-eights16 c b h k =
+    let x = bitXor c b in
+    let u = c / 256 in
+    let l = c % 256 in
+    let b₀ : b / 256 ≡ 0 = omega arith in
+    let b₁ : b % 256 ≡ b = omega arith in
+    let high : x / 256 ≡ u = xor-shr c b 8 ∙ ap (bitXor u) b₀ ∙ xor-zero-r u in
+    let low : x % 256 ≡ bitXor l b = xor-mod c b 8 ∙ ap (bitXor l) b₁ in
+    let y = bitXor l b in
+    let y₁ : y < 256 = xor-lt 8 l b (omega arith) k in
+    let b₂ : b * 256 ≡ b * 256 + 0 = omega arith in
+    let w : bitXor (l * 256 + u) (b * 256) ≡ bitXor u (y * 256) =
+    ap (bitXor (l * 256 + u)) b₂ ∙ xor-block 8 l b u 0 (omega arith) (omega arith) ∙ ap (λ (v : ℕ). y * 256 + v) (xor-zero-r u) ∙ sym (xor-shifted y 8 u (omega arith)) ∙ xor-comm (y * 256) u in
+    let v = crc16Bits 8 (y * 256) in
+    rw (high, low, eights16-at y y₁) (swap-low u v (omega arith) (crc16Bits-lt 8 (y * 256) (omega arith)) ∙ sym (eight16-linear u (y * 256) (omega arith))) ∙ ap (crc16Bits 8) (sym w)
+
+pub swapped-lt : (c b : ℕ) → c < 65536 → b < 256 → let x = bitXor c b in bitXor (x / 256) (getD eights16 (x % 256) 0) < 65536
+unfolding swapped
+swapped-lt c b h k =
+    let x = bitXor c b in
+    let i = xor-lt 16 c b h (omega arith) in
+    let v = crc16Bits-lt 8 (x % 256 * 256) (omega arith) in
+    rw (eights16-at (x % 256) (omega arith)) (xor-lt 16 (x / 256) _ (omega arith) (omega arith))

@@ -46,8 +46,8 @@ pub fn put_be(out: &mut [u8], at: usize, w: usize, v: u64) -> usize
     p
 }
 
-// A run of bytes at a place of out; the place behind it.
-pub fn put_bytes(out: &mut [u8], at: usize, s: &[u8]) -> usize
+// A run of bytes at a place of out, one after the other; the place behind it.
+fn put_run(out: &mut [u8], at: usize, s: &[u8]) -> usize
     requires { ⌜ at + length (now s) ≤ length (now out) ⌝ }
     ensures { λ r. ⌜ (r ≡ at + length (now (s .entry))) × (now (out .exit) ≡ laid (now (out .entry)) at (now (s .entry))) ⌝ }
 {
@@ -57,6 +57,24 @@ pub fn put_bytes(out: &mut [u8], at: usize, s: &[u8]) -> usize
         i += 1;
     }
     at + i
+}
+
+// A run of bytes at a place of out; the place behind it. Up to 4,096 bytes are all read before the first is written: so the compiler, for which out and s
+// may overlap, copies them at once, and nothing is left of the buffer between.
+pub fn put_bytes(out: &mut [u8], at: usize, s: &[u8]) -> usize
+    requires { ⌜ at + length (now s) ≤ length (now out) ⌝ }
+    ensures { λ r. ⌜ (r ≡ at + length (now (s .entry))) × (now (out .exit) ≡ laid (now (out .entry)) at (now (s .entry))) ⌝ }
+{
+    let n = s.len();
+    if n == 0 {
+        return at;
+    }
+    if n > 4096 {
+        return put_run(out, at, s);
+    }
+    let mut b = [0u8; 4096];
+    put_run(&mut b, 0, s);
+    put_run(out, at, &b[..n])
 }
 
 // The number in a run of at most eight bytes.

@@ -4,10 +4,12 @@ ghost use mathlib.Core.Path.{_≡_};
 ghost use Rattle.seam_rules.specs.Seam.{newDone, putDone, deliverDone, stepDone, stepOut, cancelDone, resetDone};
 use seam_calls::cancel_done;
 use seam_calls::deliver_done;
+use seam_calls::heavy_held;
+use seam_calls::light_held;
 use seam_calls::new_done;
 use seam_calls::put_done;
 use seam_calls::reset_done;
-use seam_calls::step_done;
+use seam_calls::step_told;
 use seam_memory::Handler;
 
 // A handler whose first put takes this number of `width` bytes; the configuration stays. Returns 0.
@@ -73,8 +75,12 @@ pub extern "C" fn tsendrivaty_step(
         × (r ≡ stepDone (now (state .entry)) (now (file .entry)) expired (now (out .entry)) .code)
         × (now (out .exit) ≡ stepOut (now (state .entry)) (now (file .entry)) expired (now (out .entry))) ⌝ }
 {
-    let d = step_done(*state, file, expired, out);
-    *state = d.held;
+    let d = step_told(*state, file, expired, out);
+    if d.heavy {
+        *state = heavy_held(*state, d);
+    } else {
+        *state = light_held(*state, d);
+    }
     d.code
 }
 

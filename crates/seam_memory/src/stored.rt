@@ -12,7 +12,7 @@ use types::Marks;
 use types::State;
 use types::TransactionStep;
 
-fn step_no(step: TransactionStep) -> u8
+pub fn step_no(step: TransactionStep) -> u8
     ensures { λ r. ⌜ r ≡ stepNo step ⌝ }
 {
     match step {
@@ -26,7 +26,7 @@ fn step_no(step: TransactionStep) -> u8
     }
 }
 
-fn fixed_stored(f: Fixed) -> Transaction
+pub fn fixed_stored(f: Fixed) -> Transaction
     ensures { λ r. ⌜ r ≡ fixedStored f ⌝ }
 {
     let h = f.head;
@@ -58,7 +58,7 @@ fn fixed_stored(f: Fixed) -> Transaction
     }
 }
 
-fn marks_stored(m: Marks) -> HeldMarks
+pub fn marks_stored(m: Marks) -> HeldMarks
     ensures { λ r. ⌜ r ≡ marksStored m ⌝ }
 {
     let cancelled = fields::bit_of(m.cancelled);

@@ -20,7 +20,7 @@ ghost use Rattle.rules.specs.Calls.{StepMeets, CancelMeets, ResetMeets, NewMeet
 ghost use Rattle.source_after.specs.Once.{acceptedStep, Countable};
 
 // FileChanged: not Idle, and the lent length is not S.
-fn changed(s: State, lent: usize) -> bool
+pub fn changed(s: State, lent: usize) -> bool
     ensures { λ r. ⌜ r ≡ changed s lent ⌝ }
 {
     let step = s.step;

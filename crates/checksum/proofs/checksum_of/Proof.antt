@@ -1,7 +1,7 @@
 -- Each arm's number picks the definition's arm.
 -- Assumes nothing.
 use borrow.Author.Tests.{ne-eqb}
-use Rattle.rules_leaves.specs.Checksum.{reversed, checksumOf}
+use Rattle.rules_leaves.specs.Checksum.{checksumOf}
 use borrow.Author.Needs.{needs}
 use Rattle.checksum.proofs.checksum_of.Statement.{statement}
 use Rattle.checksum.proofs.checksum_of.Tie as tie
@@ -9,23 +9,23 @@ use Rattle.checksum.proofs.checksum_of.Tie as tie
 calc-modular-checksum-requires : tie.Need-calc-modular-checksum-requires
 calc-modular-checksum-requires c κs = search needs
 
-crc32-requires : tie.Need-crc32-requires
-crc32-requires c κs = search needs
+crc32c-of-requires : tie.Need-crc32c-of-requires
+crc32c-of-requires c κs = search needs
 
-crc32-requires-2 : tie.Need-crc32-requires-2
-crc32-requires-2 c κs = search needs
+crc32-of-requires : tie.Need-crc32-of-requires
+crc32-of-requires c κs = search needs
 
 returns : tie.Need-returns
 unfolding checksumOf
 returns c = simp (c .before .match .keys1, c .calc-modular-checksum .ensures)
 
 returns-2 : tie.Need-returns-2
-unfolding checksumOf reversed
-returns-2 c = simp (c .before .match .keys2, c .crc32 .ensures)
+unfolding checksumOf
+returns-2 c = simp (c .before .match .keys2, c .crc32c-of .ensures)
 
 returns-3 : tie.Need-returns-3
-unfolding checksumOf reversed
-returns-3 c = simp (c .before .match .keys3, c .crc322 .ensures)
+unfolding checksumOf
+returns-3 c = simp (c .before .match .keys3, c .crc32-of .ensures)
 
 returns-4 : tie.Need-returns-4
 unfolding checksumOf
@@ -40,8 +40,8 @@ checksum-of-spec =
     tie.close
     (tie.spec
     calc-modular-checksum-requires
-    crc32-requires
-    crc32-requires-2
+    crc32c-of-requires
+    crc32-of-requires
     returns
     returns-2
     returns-3

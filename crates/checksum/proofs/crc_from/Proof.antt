@@ -1,4 +1,4 @@
--- What is left of the bytes, from the CRC so far, always gives the CRC of all of them; a byte is two steps of four bits.
+-- What is left of the bytes, from the CRC so far, always gives the CRC of all of them; the byte that falls out picks what is added.
 -- Assumes nothing.
 use mathlib.Core.Path.{_≡_, sym, ap, _∙_}
 use Prim.Native.Nat.{ℕ, _-_}
@@ -7,19 +7,16 @@ use native.Mathlib.Omega.{arith}
 use lib.ListN.{length, getD, drop, drop-of-length-le}
 use lib.Seq.{drop-cons}
 use Rattle.rules_leaves.specs.Checksum.{crcFrom}
-use Rattle.checksum.proofs.Linear.{by-fours}
+use Rattle.checksum.proofs.Linear.{by-eights}
 use borrow.Author.Needs.{needs}
 use Rattle.checksum.proofs.crc_from.Statement.{statement}
 use Rattle.checksum.proofs.crc_from.Tie as tie
 
 abbrev Inv-loop : tie.InvT-loop
-Inv-loop p start s t c₀ i₀ c i = crcFrom p c (drop i s) ≡ crcFrom p start s
+Inv-loop p t start s c₀ i₀ c i = crcFrom p c (drop i s) ≡ crcFrom p start s
 
 abbrev μ-loop : tie.MeasureT-loop
-μ-loop p start s t c₀ i₀ c i = length s - i
-
-fours-requires : tie.Need-fours-requires Inv-loop μ-loop
-fours-requires c κs = search needs
+μ-loop p t start s c₀ i₀ c i = length s - i
 
 loop-holds : tie.Need-loop-holds Inv-loop μ-loop
 loop-holds c = search needs
@@ -28,25 +25,16 @@ shared-slice-read-x : tie.Need-shared-slice-read-x Inv-loop μ-loop
 shared-slice-read-x c = search needs
 
 cast-x : tie.Need-cast-x Inv-loop μ-loop
-cast-x c = omega (arith, c .shared-slice-known2 .given (c .before .before .loop .i))
+cast-x c = omega (arith, c .shared-slice-known .given (c .before .before .loop .i))
 
 cast-low : tie.Need-cast-low Inv-loop μ-loop
 cast-low c = search needs
 
-mul-y : tie.Need-mul-y Inv-loop μ-loop
-mul-y c = search needs
-
-array-read-y : tie.Need-array-read-y Inv-loop μ-loop
-array-read-y c = search needs
-
-cast-high : tie.Need-cast-high Inv-loop μ-loop
-cast-high c = search needs
-
 mul-c : tie.Need-mul-c Inv-loop μ-loop
 mul-c c = search needs
 
-array-read-c : tie.Need-array-read-c Inv-loop μ-loop
-array-read-c c = search needs
+element-copy-out-c : tie.Need-element-copy-out-c Inv-loop μ-loop
+element-copy-out-c c = search needs
 
 add-i : tie.Need-add-i Inv-loop μ-loop
 add-i c = search needs
@@ -55,10 +43,10 @@ loop-less : tie.Need-loop-less Inv-loop μ-loop
 loop-less c = search needs
 
 loop-again : tie.Need-loop-again Inv-loop μ-loop
-loop-again c = let l = c .before .before .loop in
-    let a = c .before .before .before .before .before .args in
-    rw (add-one, c .before .before .before .fours .ensures, by-fours (a .p) (l .c) (getD (a .s .now) (l .i) 0))
-    (rw (drop-cons {A = ℕ} _ _ 0 (c .before .loop-test .taken)) at (l .inv))
+loop-again c = let l = c .before .before .before .loop in
+    let a = c .before .before .before .before .args in
+    rw (add-one, c .before .before .before .before .pre, by-eights (a .p) (l .c) (getD (a .s .now) (l .i) 0))
+    (rw (drop-cons {A = ℕ} _ _ 0 (c .before .before .loop-test .taken)) at (l .inv))
 
 returns : tie.Need-returns Inv-loop μ-loop
 returns c = rw (drop-of-length-le _ (c .loop-test .left)) at (c .before .loop .inv)
@@ -69,16 +57,12 @@ crc-from-spec =
     (tie.spec
     Inv-loop
     μ-loop
-    fours-requires
     loop-holds
     shared-slice-read-x
     cast-x
     cast-low
-    mul-y
-    array-read-y
-    cast-high
     mul-c
-    array-read-c
+    element-copy-out-c
     add-i
     loop-less
     loop-again

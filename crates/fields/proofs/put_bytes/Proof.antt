@@ -1,64 +1,71 @@
--- `put_bytes`: what is laid so far, and the rest of the run, are the whole run laid.
+-- `put_bytes`: the bytes laid in the buffer are laid again, in out.
 -- Assumes nothing.
-use mathlib.Core.Path.{_≡_, _∙_, sym}
-use Prim.Native.Nat.{_≤_, _+_, _-_}
-use native.Mathlib.Nat.{add-zero}
-use lib.ListN.{length, drop}
+use mathlib.Core.Path.{_≡_, sym, ap, _∙_}
+use mathlib.Core.List.{List}
+use Prim.Native.Nat.{ℕ, _≤_}
+use native.Mathlib.Omega.{arith}
+use lib.ListN.{length, take, replicate, length-replicate}
 use Rattle.basis.specs.Laid.{laid}
-use Rattle.basis.proofs.Laid.{run-step, run-done}
+use Rattle.basis.proofs.Laid.{take-front, run-done}
 use borrow.Author.Needs.{needs}
 use Rattle.fields.proofs.put_bytes.Statement.{statement}
 use Rattle.fields.proofs.put_bytes.Tie as tie
 
-abbrev Inv-loop : tie.InvT-loop
-Inv-loop out₀ at s i₀ out i = (i ≤ length s) × (length out ≡ length out₀) × (laid out (at + i) (drop i s) ≡ laid out₀ at s)
+-- the front of the buffer in which they were laid
+front : (b s : List ℕ) → length s ≤ 4096 → b ≡ laid (replicate 4096 0) 0 s → take (length s) b ≡ s
+front b s h e = ap (take (length s)) e ∙ take-front (replicate 4096 0) s (omega (arith, length-replicate {A = ℕ} 4096 0))
 
-abbrev μ-loop : tie.MeasureT-loop
-μ-loop out₀ at s i₀ out i = length s - i
+returns : tie.Need-returns
+returns c = (search needs, sym (run-done _ _ _ 0 (omega arith)))
 
-loop-holds : tie.Need-loop-holds Inv-loop μ-loop
-loop-holds c = (search needs, search needs, simp add-zero)
+put-run-requires : tie.Need-put-run-requires
+put-run-requires c κs = search needs
 
-shared-slice-read-out : tie.Need-shared-slice-read-out Inv-loop μ-loop
-shared-slice-read-out c = search needs
-
-add-out : tie.Need-add-out Inv-loop μ-loop
-add-out c = search needs
-
-slice-write-out : tie.Need-slice-write-out Inv-loop μ-loop
-slice-write-out c = search needs
-
-add-i : tie.Need-add-i Inv-loop μ-loop
-add-i c = search needs
-
-loop-less : tie.Need-loop-less Inv-loop μ-loop
-loop-less c = search needs
-
-loop-again : tie.Need-loop-again Inv-loop μ-loop
-loop-again c = (search needs, search needs, run-step _ _ _ _ (c .before .loop-test .taken) ∙ c .before .before .loop .inv .2)
-
-add-result : tie.Need-add-result Inv-loop μ-loop
-add-result c = search needs
-
-same-length : tie.Need-same-length Inv-loop μ-loop
+same-length : tie.Need-same-length
 same-length c = search needs
 
-returns : tie.Need-returns Inv-loop μ-loop
-returns c = (search needs, sym (run-done _ _ _ _ (c .loop-test .left)) ∙ c .before .loop .inv .2)
+returns-2 : tie.Need-returns-2
+returns-2 c = search needs
+
+slice-aggregate-put-run : tie.Need-slice-aggregate-put-run
+slice-aggregate-put-run c = search needs
+
+put-run-requires-2 : tie.Need-put-run-requires-2
+put-run-requires-2 c κs = search needs
+
+array-share-prefix-b : tie.Need-array-share-prefix-b
+array-share-prefix-b c = search needs
+
+slice-aggregate-put-run-2 : tie.Need-slice-aggregate-put-run-2
+slice-aggregate-put-run-2 c = let s = c .before .before .before .before .before .before .before .before .before .args .s .now in
+    let r = c .before .before .before .put-run2 in
+    sym (ap length (front (r .last .0) s (omega arith) (r .ensures .1)))
+
+put-run-requires-3 : tie.Need-put-run-requires-3
+put-run-requires-3 c κs = let s = c .before .before .before .before .before .before .before .before .before .args .s .now in
+    let r = c .before .before .before .put-run2 in
+    rw (front (r .last .0) s (omega arith) (r .ensures .1)) (search needs)
+
+same-length-2 : tie.Need-same-length-2
+same-length-2 c = search needs
+
+returns-3 : tie.Need-returns-3
+returns-3 c = let s = c .before .before .before .before .before .before .before .before .before .before .before .before .args .s .now in
+    let r = c .before .before .before .before .before .before .put-run2 in
+    rw (front (r .last .0) s (omega arith) (r .ensures .1)) at (c .before .before .put-run3 .ensures)
 
 pub put-bytes-spec : {M : Type 1} → statement M
 put-bytes-spec =
     tie.close
     (tie.spec
-    Inv-loop
-    μ-loop
-    loop-holds
-    shared-slice-read-out
-    add-out
-    slice-write-out
-    add-i
-    loop-less
-    loop-again
-    add-result
+    returns
+    put-run-requires
     same-length
-    returns)
+    returns-2
+    slice-aggregate-put-run
+    put-run-requires-2
+    array-share-prefix-b
+    slice-aggregate-put-run-2
+    put-run-requires-3
+    same-length-2
+    returns-3)

@@ -14,14 +14,14 @@ deliver-requires c κs = search needs
 no-report-requires : tie.Need-no-report-requires
 no-report-requires c κs = search needs
 
-by-answer-requires : tie.Need-by-answer-requires
-by-answer-requires c κs = search needs
+by-answer-of-deliver-requires : tie.Need-by-answer-of-deliver-requires
+by-answer-of-deliver-requires c κs = search needs
 
 returns : tie.Need-returns
 unfolding deliverDone
-returns c = rw ((c .by-answer .ensures), (c .before .no-report .ensures), (c .before .before .before .deliver .ensures), (c .before .before .before .before .state-of .ensures))
+returns c = rw ((c .by-answer-of-deliver .ensures), (c .before .no-report .ensures), (c .before .before .before .deliver .ensures), (c .before .before .before .before .state-of .ensures))
 
 pub deliver-done-spec : {M : Type 1} → statement M
 deliver-done-spec =
     tie.close
-    (tie.spec state-of-requires deliver-requires no-report-requires by-answer-requires returns)
+    (tie.spec state-of-requires deliver-requires no-report-requires by-answer-of-deliver-requires returns)

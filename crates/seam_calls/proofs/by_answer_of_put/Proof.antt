@@ -1,8 +1,8 @@
 -- By the answer.
 -- Assumes nothing.
 use borrow.Author.Needs.{needs}
-use Rattle.seam_calls.proofs.by_answer.Statement.{statement}
-use Rattle.seam_calls.proofs.by_answer.Tie as tie
+use Rattle.seam_calls.proofs.by_answer_of_put.Statement.{statement}
+use Rattle.seam_calls.proofs.by_answer_of_put.Tie as tie
 
 enum-told : tie.Need-enum-told
 enum-told c = search needs
@@ -22,6 +22,6 @@ returns c = rw ((c .stored .ensures), c .before .enum-told .given .1)
 returns-2 : tie.Need-returns-2
 returns-2 c = rw ((c .code-of .ensures), c .before .before .a .given .1)
 
-pub by-answer-spec : {M : Type 1} → statement M
-by-answer-spec =
+pub by-answer-of-put-spec : {M : Type 1} → statement M
+by-answer-of-put-spec =
     tie.close (tie.spec enum-told stored-requires enum-known-a code-of-requires returns returns-2)

@@ -1,0 +1,12 @@
+-- Assumes nothing.
+use mathlib.Core.Path.{refl}
+use Rattle.seam_calls.specs.Told.{lightHeld}
+use Rattle.seam_calls.proofs.light_held.Statement.{statement}
+use Rattle.seam_calls.proofs.light_held.Tie as tie
+
+returns : tie.Need-returns
+unfolding lightHeld
+returns c = refl
+
+pub light-held-spec : {M : Type 1} → statement M
+light-held-spec = tie.close (tie.spec returns)
