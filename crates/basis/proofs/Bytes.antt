@@ -8,7 +8,7 @@ use native.Mathlib.Numerals.{add-one}
 use native.Mathlib.Omega.{arith}
 use lib.ListN.{length, getD, take, drop, length-take, length-drop, drop-of-length-le}
 use lib.Pow.{pow-add, pow-mono, mod-pow-add, high, low}
-use lib.Seq.{drop-cons, take-nil}
+use lib.Seq.{drop-cons, drop-drop, take-add, take-nil}
 use Rattle.basis.proofs.Lists.{take-min}
 use Rattle.basis.specs.Bytes.{be, numFrom, num, part, byte, numAt, Bytes}
 
@@ -123,3 +123,34 @@ pub part-le : (s : List ℕ) (at w n r : ℕ) → n ≡ min w (length s - at) �
 part-le s at w n r e h =
     let l : length (take (at + n - at) (drop at s)) ≤ w = rw e (simp (add-sub-cancel-left, length-take, length-drop) (omega arith)) in
     lt-of-lt-of-le h (pow-mono (omega arith))
+
+-- a part has its first byte in front
+part-cons : (s : List ℕ) (i j w : ℕ) → suc i ≡ j → i < length s → part s i (suc w) ≡ getD s i 0 ∷ part s j w
+unfolding part
+part-cons s i j w e h = rw (← e, drop-cons s i 0)
+
+pub num-four : (s : List ℕ) (i : ℕ) → i + 4 ≤ length s
+    → numAt s i 4 ≡ ((getD s i 0 * 256 + getD s (i + 1) 0) * 256 + getD s (i + 2) 0) * 256 + getD s (i + 3) 0
+unfolding numAt num
+num-four s i h =
+    rw (
+      part-cons s i (i + 1) 3 (omega arith) (omega arith),
+      part-cons s (i + 1) (i + 2) 2 (omega arith) (omega arith),
+      part-cons s (i + 2) (i + 3) 1 (omega arith) (omega arith),
+      part-cons s (i + 3) (i + 4) 0 (omega arith) (omega arith),
+    )
+    (omega arith)
+
+numFrom-append : (a : ℕ) (x y : List ℕ) → numFrom a (x ++ y) ≡ numFrom (numFrom a x) y
+numFrom-append a [] y = refl
+numFrom-append a (b ∷ x) y = numFrom-append (a * 256 + b) x y
+
+-- v bytes behind w
+pub num-split : (s : List ℕ) (i w v : ℕ) → i + w + v ≤ length s → numAt s i (w + v) ≡ numAt s i w * 2 ^ (8 * v) + numAt s (i + w) v
+unfolding numAt part num
+num-split s i w v h =
+    let x = take w (drop i s) in
+    let y = take v (drop (i + w) s) in
+    let l : length y ≡ v = simp (length-take, length-drop) (omega arith) in
+    let e : take (w + v) (drop i s) ≡ x ++ y = take-add w v (drop i s) ∙ rw (drop-drop w i s) refl in
+    ap (numFrom 0) e ∙ numFrom-append 0 x y ∙ rw l at (numFrom-num (numFrom 0 x) y)

@@ -1,20 +1,22 @@
--- A byte at a time. What falls out of a CRC depends on its lowest bits alone, and what is added to the rest does not depend on the rest: a step is linear.
+-- A CRC by its table is the CRC bit by bit: `table-crc`, and `table-crc16` with the bytes exchanged. What falls out depends on the lowest bits alone, and what is
+-- added to the rest does not depend on the rest: a step is linear.
 -- Assumes nothing.
-use mathlib.Core.Path.{_≡_, refl, sym, ap, ap₂, _∙_}
+use mathlib.Core.Path.{_≡_, refl, sym, ap, _∙_}
 use mathlib.Core.Bool.{Bool, true, false}
 use mathlib.Core.List.{List, [], _∷_}
 use Prim.Native.Nat.{ℕ, zero, suc, _+_, _*_, _/_, _%_, _^_, _<_}
-use native.Mathlib.Nat.{zero-add, mul-one, two-pow-succ}
+use native.Mathlib.Nat.{add-zero, zero-add, mul-one, two-pow-succ, le-mul-of-pos-right}
 use native.Mathlib.Omega.{arith}
 use lib.Arith.{bin-ind}
-use lib.Bits.{bitXor, differ, xor-step, xor-shr, xor-mod, xor-block, xor-shifted, xor-comm, xor-lt, xor-zero-r}
+use lib.Bits.{bitXor, differ, xor-step, xor-shr, xor-mod, xor-block, xor-shifted, xor-comm, xor-lt}
 use lib.Dec.{eqb, ltb}
+use lib.Pow.{pow-pos}
 use borrow.Author.Tests.{ltb-true, ltb-false, lt-ltb, le-ltb}
 use lib.ListN.{getD}
 use Rattle.basis.specs.Pick.{pick}
-use Rattle.rules_leaves.specs.Checksum.{crcBit, crcBits, crcByte, crc16Bit, crc16Bits, crc16Byte}
+use Rattle.rules_leaves.specs.Checksum.{crcBit, crcBits, crcByte, crcFrom, crc16Bit, crc16Bits, crc16Byte, crc16From}
 use Rattle.rules_leaves.proofs.Sums.{crc16Bits-lt}
-use Rattle.checksum.specs.Eights.{tabled, eights, swapped, eights16}
+use Rattle.checksum.specs.Tables.{tableShift, tableFrom, tabled, eights, swapped, eights16}
 
 -- ---- exclusive or, digit by digit
 
@@ -88,20 +90,25 @@ tabled-at f (suc n) k (suc i) h =
     let e : suc k + i ≡ k + suc i = omega arith in
     tabled-at f n (suc k) i (omega arith) ∙ ap f e
 
--- ---- a byte
+shift-tabled : (f : ℕ → ℕ) (x : ℕ) → tableShift (tabled f 256 0) x ≡ bitXor (x / 256) (f (x % 256))
+unfolding tableShift
+shift-tabled f x = ap (bitXor (x / 256)) (tabled-at f 256 0 (x % 256) (omega arith) ∙ ap f (zero-add (x % 256)))
+
+-- ---- reflected: a byte, then all
 
 eight-bits : (p x : ℕ) → bitXor (x / 256) (crcBits p 8 (x % 256)) ≡ crcBits p 8 x
 eight-bits p x =
     let e : bitXor (x / 256 * 256) (x % 256) ≡ x = xor-shifted (x / 256) 8 (x % 256) (omega arith) ∙ omega arith in
     sym (bits-linear p 8 (x / 256) (x % 256)) ∙ ap (crcBits p 8) e
 
-eights-at : (p i : ℕ) → i < 256 → getD (eights p) i 0 ≡ crcBits p 8 i
+by-eights : (p x : ℕ) → tableShift (eights p) x ≡ crcBits p 8 x
 unfolding eights
-eights-at p i h = tabled-at (crcBits p 8) 256 0 i h ∙ ap (crcBits p 8) (zero-add i)
+by-eights p x = shift-tabled (crcBits p 8) x ∙ eight-bits p x
 
-pub by-eights : (p c b : ℕ) → let x = bitXor c b in bitXor (x / 256) (getD (eights p) (x % 256) 0) ≡ crcByte p c b
+pub table-crc : (p c : ℕ) (s : List ℕ) → tableFrom (eights p) c s ≡ crcFrom p c s
 unfolding crcByte
-by-eights p c b = rw (eights-at p (bitXor c b % 256) (omega arith)) (eight-bits p (bitXor c b))
+table-crc p c [] = refl
+table-crc p c (b ∷ s) = rw (by-eights p (bitXor c b)) (table-crc p (crcByte p c b) s)
 
 -- ---- CRC-16: the bits fall out at the top
 
@@ -124,15 +131,9 @@ top a x h =
 
 doubled : (a x : ℕ) → a < 32768 → bitXor a x * 2 % 65536 ≡ bitXor (a * 2) (x * 2 % 65536)
 doubled a x h =
-    let e : bitXor a x * 2 ≡ bitXor (a * 2) (x * 2) = twice (bitXor a x) (bitXor (a * 2 + 0) (x * 2 + 0)) (xor-block 1 a x 0 0 (omega arith) (omega arith)) ∙ ap₂ bitXor (plus (a * 2)) (plus (x * 2)) in
+    let e : bitXor (a * 2) (x * 2) ≡ bitXor a x * 2 = simp add-zero at (xor-block 1 a x 0 0 (omega arith) (omega arith)) in
     let m : a * 2 % 65536 ≡ a * 2 = omega arith in
-    ap (λ (v : ℕ). v % 65536) e ∙ xor-mod (a * 2) (x * 2) 16 ∙ ap (λ (v : ℕ). bitXor v (x * 2 % 65536)) m
-  where
-    plus : (n : ℕ) → n + 0 ≡ n
-    plus n = omega arith
-
-    twice : (v w : ℕ) → w ≡ v * 2 + 0 → v * 2 ≡ w
-    twice v w e = omega arith
+    rw (← e, xor-mod (a * 2) (x * 2) 16, m)
 
 by-top : (t : Bool) (a x p : ℕ) → pick t (bitXor a x) (bitXor (bitXor a x) p) ≡ bitXor a (pick t x (bitXor x p))
 by-top true a x p = refl
@@ -141,67 +142,51 @@ by-top false a x p = xor-assoc a x p
 bit16-linear : (a x : ℕ) → a < 32768 → crc16Bit (bitXor a x) ≡ bitXor (a * 2) (crc16Bit x)
 bit16-linear a x h = rw (top a x h, doubled a x h) (by-top (ltb x 32768) (a * 2) (x * 2 % 65536) 0x1021)
 
-four16-linear : (a x : ℕ) → a < 4096 → crc16Bits 4 (bitXor a x) ≡ bitXor (a * 16) (crc16Bits 4 x)
-four16-linear a x h =
-    let x1 = crc16Bit x in
-    let x2 = crc16Bit x1 in
-    let x3 = crc16Bit x2 in
-    let e : a * 2 * 2 * 2 * 2 ≡ a * 16 = omega arith in
-    ap (crc16Bits 3) (bit16-linear a x (omega arith))
-    ∙ ap (crc16Bits 2) (bit16-linear (a * 2) x1 (omega arith))
-    ∙ ap (crc16Bits 1) (bit16-linear (a * 2 * 2) x2 (omega arith))
-    ∙ bit16-linear (a * 2 * 2 * 2) x3 (omega arith)
-    ∙ ap (λ (v : ℕ). bitXor v (crc16Bits 4 x)) e
+bits16-linear : (n a x : ℕ) → a * 2 ^ n < 65536 → crc16Bits n (bitXor a x) ≡ bitXor (a * 2 ^ n) (crc16Bits n x)
+bits16-linear zero a x h = ap (λ (v : ℕ). bitXor v x) (sym (mul-one a))
+bits16-linear (suc n) a x h =
+    let e : a * 2 ^ suc n ≡ a * 2 * 2 ^ n = rw (two-pow-succ n) (omega arith) in
+    let k = le-mul-of-pos-right (a * 2) (pow-pos n) in
+    rw e (ap (crc16Bits n) (bit16-linear a x (omega arith)) ∙ bits16-linear n (a * 2) (crc16Bit x) (rw e at h))
 
-eight16-linear : (a x : ℕ) → a < 256 → crc16Bits 8 (bitXor a x) ≡ bitXor (a * 256) (crc16Bits 8 x)
-eight16-linear a x h =
-    let e : a * 16 * 16 ≡ a * 256 = omega arith in
-    ap (crc16Bits 4) (four16-linear a x (omega arith)) ∙ four16-linear (a * 16) (crc16Bits 4 x) (omega arith) ∙ ap (λ (v : ℕ). bitXor v (crc16Bits 8 x)) e
-
--- a byte added to a number below 2 ^ 16 whose bytes are exchanged is added to the number's highest byte
-swap-low : (h v : ℕ) → h < 256 → v < 65536 → swapped (bitXor h (swapped v)) ≡ bitXor (h * 256) v
+swap-twice : (v : ℕ) → v < 65536 → swapped (swapped v) ≡ v
 unfolding swapped
-swap-low h v k l =
-    let a = v / 256 in
-    let b = v % 256 in
-    let h₀ : h ≡ 0 * 256 + h = omega arith in
-    let h₁ : h * 256 ≡ h * 256 + 0 = omega arith in
-    let v₁ : v ≡ a * 256 + b = omega arith in
-    let e : bitXor h (b * 256 + a) ≡ bitXor 0 b * 256 + bitXor h a = ap (λ (x : ℕ). bitXor x (b * 256 + a)) h₀ ∙ xor-block 8 0 b h a k (omega arith) in
-    let f : bitXor (h * 256) v ≡ bitXor h a * 256 + bitXor 0 b = ap₂ bitXor h₁ v₁ ∙ xor-block 8 h a 0 b (omega arith) (omega arith) in
-    exchanged (bitXor h (b * 256 + a)) (bitXor 0 b) (bitXor h a) e (xor-lt 8 0 b (omega arith) (omega arith)) (xor-lt 8 h a k (omega arith)) ∙ sym f
-  where
-    exchanged : (x u w : ℕ) → x ≡ u * 256 + w → u < 256 → w < 256 → x % 256 * 256 + x / 256 ≡ w * 256 + u
-    exchanged x u w e i j = omega arith
+swap-twice v h = omega arith
 
-eights16-at : (i : ℕ) → i < 256 → getD eights16 i 0 ≡ swapped (crc16Bits 8 (i * 256))
-unfolding eights16
-eights16-at i h =
-    let f : ℕ → ℕ = λ (k : ℕ). swapped (crc16Bits 8 (k * 256)) in
-    tabled-at f 256 0 i h ∙ ap f (zero-add i)
-
-pub by-eights16 : (c b : ℕ) → c < 65536 → b < 256 → let x = bitXor c b in swapped (bitXor (x / 256) (getD eights16 (x % 256) 0)) ≡ crc16Byte (swapped c) b
-unfolding crc16Byte swapped
-by-eights16 c b h k =
-    let x = bitXor c b in
-    let u = c / 256 in
-    let l = c % 256 in
+-- a byte added at the bottom is, of the bytes exchanged, added at the top
+swap-low : (c b : ℕ) → c < 65536 → b < 256 → swapped (bitXor c b) ≡ bitXor (swapped c) (b * 256)
+unfolding swapped
+swap-low c b h k =
     let b₀ : b / 256 ≡ 0 = omega arith in
     let b₁ : b % 256 ≡ b = omega arith in
-    let high : x / 256 ≡ u = xor-shr c b 8 ∙ ap (bitXor u) b₀ ∙ xor-zero-r u in
-    let low : x % 256 ≡ bitXor l b = xor-mod c b 8 ∙ ap (bitXor l) b₁ in
-    let y = bitXor l b in
-    let y₁ : y < 256 = xor-lt 8 l b (omega arith) k in
-    let b₂ : b * 256 ≡ b * 256 + 0 = omega arith in
-    let w : bitXor (l * 256 + u) (b * 256) ≡ bitXor u (y * 256) =
-    ap (bitXor (l * 256 + u)) b₂ ∙ xor-block 8 l b u 0 (omega arith) (omega arith) ∙ ap (λ (v : ℕ). y * 256 + v) (xor-zero-r u) ∙ sym (xor-shifted y 8 u (omega arith)) ∙ xor-comm (y * 256) u in
-    let v = crc16Bits 8 (y * 256) in
-    rw (high, low, eights16-at y y₁) (swap-low u v (omega arith) (crc16Bits-lt 8 (y * 256) (omega arith)) ∙ sym (eight16-linear u (y * 256) (omega arith))) ∙ ap (crc16Bits 8) (sym w)
+    rw (xor-mod c b 8, xor-shr c b 8, b₀, b₁) (rw (add-zero (b * 256)) at (sym (xor-block 8 (c % 256) b (c / 256) 0 (omega arith) (omega arith))))
 
-pub swapped-lt : (c b : ℕ) → c < 65536 → b < 256 → let x = bitXor c b in bitXor (x / 256) (getD eights16 (x % 256) 0) < 65536
-unfolding swapped
-swapped-lt c b h k =
-    let x = bitXor c b in
-    let i = xor-lt 16 c b h (omega arith) in
+by-eights16 : (x : ℕ) → x < 65536 → swapped (tableShift eights16 x) ≡ crc16Bits 8 (swapped x)
+unfolding eights16 swapped
+by-eights16 x h =
+    let u = x / 256 in
+    let y = x % 256 * 256 in
+    let v = crc16Bits 8 y in
+    let l = crc16Bits-lt 8 y (omega arith) in
+    ap swapped (shift-tabled (λ (k : ℕ). swapped (crc16Bits 8 (k * 256))) x ∙ xor-comm u (swapped v))
+    ∙ swap-low (swapped v) u (omega arith) (omega arith)
+    ∙ ap (λ (w : ℕ). bitXor w (u * 256)) (swap-twice v l)
+    ∙ xor-comm v (u * 256)
+    ∙ sym (bits16-linear 8 u y (omega arith))
+    ∙ ap (crc16Bits 8) (xor-comm u y ∙ xor-shifted (x % 256) 8 u (omega arith))
+
+eights16-lt : (x : ℕ) → x < 65536 → tableShift eights16 x < 65536
+unfolding eights16 swapped
+eights16-lt x h =
     let v = crc16Bits-lt 8 (x % 256 * 256) (omega arith) in
-    rw (eights16-at (x % 256) (omega arith)) (xor-lt 16 (x / 256) _ (omega arith) (omega arith))
+    rw (shift-tabled _ x) (xor-lt 16 (x / 256) _ (omega arith) (omega arith))
+
+pub table-crc16 : (c : ℕ) (s : List ℕ) → c < 65536 → ((i : ℕ) → getD s i 0 < 256)
+    → (tableFrom eights16 c s < 65536) × (swapped (tableFrom eights16 c s) ≡ crc16From (swapped c) s)
+unfolding crc16Byte
+table-crc16 c [] h k = (h, refl)
+table-crc16 c (b ∷ s) h k =
+    let l = k 0 in
+    let x = bitXor c b in
+    let j = xor-lt 16 c b h (omega arith) in
+    rw (← (swap-low c b h l), ← (by-eights16 x j)) (table-crc16 (tableShift eights16 x) s (eights16-lt x j) (λ i. k (suc i)))

@@ -1,1 +1,1 @@
-pub mod Eights
+pub mod Tables

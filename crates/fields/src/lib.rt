@@ -107,3 +107,15 @@ pub fn num_at(s: &[u8], at: usize, w: usize) -> u64
     let e = at + lesser(lesser(w, 8), s.len() - at);
     num(&s[at..e])
 }
+
+// The number in the four bytes from a place on, read at once.
+pub fn four(s: &[u8], at: usize) -> u64
+    requires { ⌜ at + 4 ≤ length (now s) ⌝ }
+    ensures { λ r. ⌜ (r ≡ numAt (now (s .entry)) at 4) × (r < 4294967296) ⌝ }
+{
+    let a = wide(s[at]);
+    let b = wide(s[at + 1]);
+    let c = wide(s[at + 2]);
+    let d = wide(s[at + 3]);
+    ((a * 256 + b) * 256 + c) * 256 + d
+}

@@ -22,13 +22,13 @@ use denote.Steps.{only}
 use denote.Struct.Laws as LL
 use Rattle.seam_memory.specs.declared.Handler.{Handler}
 use Rattle.seam_rules.specs.declared.Done.{Done}
-use Rattle.seam_calls.specs.declared.Told.{Told}
+use Rattle.seam_calls.specs.declared.light.Light.{Light}
 use Rattle.seam_memory.proofs.Handler as H
 use Rattle.seam_memory.proofs.Handler.Laws as H′
 use Rattle.seam_rules.proofs.Done as D
 use Rattle.seam_rules.proofs.Done.Laws as D′
-use Rattle.seam_calls.proofs.Told as T
-use Rattle.seam_calls.proofs.Told.Laws as T′
+use Rattle.seam_calls.proofs.light.Light as L
+use Rattle.seam_calls.proofs.light.Light.Laws as L′
 
 -- ---- a handler: its type and what it owns in memory
 
@@ -114,7 +114,18 @@ pub seen-is : (k : Handler) (w : Val) → Seen k w → Is row k (machs k)
 unfolding Seen
 seen-is k w is = subst (λ (u : Val). Is row k (u ∷ [])) (seen-mach k w is) is
 
--- ---- what a step tells: two fields are read here, and the rest stays closed
+-- ---- the light part of what a call tells
+
+unfoldable pub light-ty : Ty
+light-ty = L′.mir
+
+unfoldable pub light-mach : Light → Val
+light-mach l = LL.val L.the-type L′.the-laws l
+
+abbrev pub light-machs : Light → List Val
+light-machs l = light-mach l ∷ []
+
+-- ---- a struct with more fields than the walks look at: those behind the first three
 
 abbrev fields-of : Ty → Tys
 fields-of (tyInt w) = tnil
@@ -132,6 +143,9 @@ abbrev behind : Tys → Tys
 behind tnil = tnil
 behind (tcons τ τs) = τs
 
+abbrev pub from-fourth : Ty → Tys
+from-fourth τ = behind (behind (behind (fields-of τ)))
+
 abbrev values-of : Val → Vals
 values-of vunit = vnil
 values-of (vbool x) = vnil
@@ -144,32 +158,16 @@ abbrev after : Vals → Vals
 after vnil = vnil
 after (vcons v vs) = vs
 
-unfoldable pub rest-ty : Tys
-rest-ty = behind (behind (fields-of T′.mir))
+abbrev pub values-from-fourth : Val → Vals
+values-from-fourth v = after (after (after (values-of v)))
 
-unfoldable pub rest : Told → Vals
-rest r = after (after (values-of (LL.val T.the-type T′.the-laws r)))
+-- the code, whether it is heavy, the light part
+abbrev pub telling-parts : Tys → Tys
+telling-parts τs = tcons (tyInt w32) (tcons tyBool (tcons light-ty τs))
 
-abbrev pub told-ty : Ty
-told-ty = tyStruct (T.struct .name) (tcons (tyInt w32) (tcons tyBool rest-ty))
-
-abbrev pub telling : Told → Val
-telling r = vstruct (vcons (vint w32 (r .code)) (vcons (vbool (r .heavy)) (rest r)))
-
-unfoldable pub Telt : Told → Val → Type 0
-Telt r w = Is T.the-row r (w ∷ [])
-
-pub told-is : (r : Told) (w : Val) → Telt r w → w ≡ telling r
-unfolding Telt rest
-told-is r w is = ap only (LL.tells T.the-type T′.the-laws r _ is)
-
-pub telling-is : (r : Told) (w : Val) → Telt r w → Is T.the-row r (telling r ∷ [])
-unfolding Telt
-telling-is r w is = subst (λ (u : Val). Is T.the-row r (u ∷ [])) (told-is r w is) is
-
-pub told-fits : (r : Told) (w : Val) → Telt r w → r .code < 2 ^ 32
-unfolding Telt
-told-fits r w is = LL.owed T.the-type T′.the-laws r _ is .0 .1
+pub light-at : (τs : Tys) → fieldAt zero (telling-parts τs) 2 ≡ some (light-ty, 8)
+unfolding light-ty
+light-at τs = refl
 
 -- ---- and of the right types
 
@@ -190,9 +188,5 @@ module _ {M : Type 1} (𝓤 : URA M) (S : Heap 𝓤) (A : Atoms 𝓤) (W : Given
   unfolding ty own Seen
   seen-typed k w is = LL.lawful H.the-type H′.the-laws 𝓤 S A W .typed k _ is .0
 
-  pub told-typed : (r : Told) (w : Val) → Telt r w → Holds (hasTy told-ty w) × WT w
-  unfolding Telt rest-ty
-  told-typed r w is = LL.lawful T.the-type T′.the-laws 𝓤 S A W .typed r _ is .0
-
-  pub told-makes : Makes 𝓤 S A T.the-row (Is T.the-row)
-  told-makes = LL.makes T.the-type T′.the-plain 𝓤 S A
+  pub light-makes : Makes 𝓤 S A L.the-row (Is L.the-row)
+  light-makes = LL.makes L.the-type L′.the-plain 𝓤 S A

@@ -3,13 +3,14 @@
 ghost use mathlib.Core.Path.{_≡_};
 ghost use Rattle.seam_rules.specs.Seam.{newDone, putDone, deliverDone, stepDone, stepOut, cancelDone, resetDone};
 use seam_calls::cancel_done;
-use seam_calls::deliver_done;
-use seam_calls::heavy_held;
-use seam_calls::light_held;
+use seam_calls::deliver::deliver_heard;
+use seam_calls::deliver::queue_held;
+use seam_calls::light::light_held;
 use seam_calls::new_done;
 use seam_calls::put_done;
 use seam_calls::reset_done;
-use seam_calls::step_told;
+use seam_calls::step::bulk_held;
+use seam_calls::step::step_told;
 use seam_memory::Handler;
 
 // A handler whose first put takes this number of `width` bytes; the configuration stays. Returns 0.
@@ -57,8 +58,12 @@ pub extern "C" fn tsendrivaty_put(
 pub extern "C" fn tsendrivaty_deliver(state: &mut Handler, bytes: &[u8]) -> u32
     ensures { λ r. ⌜ (now (state .exit) ≡ deliverDone (now (state .entry)) (now (bytes .entry)) .held) × (r ≡ deliverDone (now (state .entry)) (now (bytes .entry)) .code) ⌝ }
 {
-    let d = deliver_done(*state, bytes);
-    *state = d.held;
+    let d = deliver_heard(*state, bytes);
+    if d.heavy {
+        *state = queue_held(*state, bytes, d);
+    } else {
+        *state = light_held(*state, d.light);
+    }
     d.code
 }
 
@@ -77,9 +82,9 @@ pub extern "C" fn tsendrivaty_step(
 {
     let d = step_told(*state, file, expired, out);
     if d.heavy {
-        *state = heavy_held(*state, d);
+        *state = bulk_held(*state, d);
     } else {
-        *state = light_held(*state, d);
+        *state = light_held(*state, d.light);
     }
     d.code
 }

@@ -1,82 +1,69 @@
--- A step in two parts, so that only what changes is stored: what it returns and what there is to store, then the memory after it. That both together are the
--- call's definition (`stepDone` of crate `seam_rules`): proofs/Parts.antt.
+-- What the first part of a step and of a delivery tells; and what both parts leave, which proofs/Both.antt holds to the calls' own definitions (crate `seam_rules`).
 -- Assumes nothing.
-use mathlib.Core.Bool.{true, false}
+use mathlib.Core.Bool.{false, not}
 use mathlib.Core.List.{List}
 use Prim.Native.Nat.{ℕ}
-use lib.Dec.{ltb}
-use lib.ListN.{length}
 use Rattle.basis.specs.Pick.{pick}
-use Rattle.rules.specs.States.{noEof}
-use Rattle.rules.specs.Step.{changed, dueOf, sendingOf, bytesFor, eventsOf}
-use Rattle.rules.specs.Deliver.{stepNo}
-use Rattle.source_after.specs.Once.{eofIn, isHeavy, lightStep, lightFile, lightMarks, heavyWith}
-use Rattle.seam_memory.specs.Memory.{flagOf, stateOf, heldOf, fixedStored, marksStored, reportOf}
+use Rattle.rules.specs.Refusals.{answerNo}
+use Rattle.rules.specs.Step.{eventsOf}
+use Rattle.source_after.specs.Once.{afterWith}
+use Rattle.source_after.specs.Bulk.{bulkOf, isKept}
+use Rattle.source_after.specs.declared.bulk.Bulk.the-variants.{Kept}
+use Rattle.source_step.specs.declared.outcome.Outcome.{Outcome}
+use Rattle.source_deliver.specs.Effects.{answerBy, movedBy, movesQueue}
+use Rattle.source_deliver.specs.declared.effect.Effect.{Effect}
+use Rattle.seam_memory.specs.Memory.{reportOf, noReport}
 use Rattle.types.specs.declared.State.{State}
-use Rattle.types.specs.declared.Eof.{Eof}
-use Rattle.types.specs.declared.Due.{Due}
-use Rattle.types.specs.declared.Due.the-variants.{Nothing}
-use Rattle.types.specs.declared.Answer.the-variants.{Accepted}
-use Rattle.types.specs.declared.Stepped.{Stepped}
+use Rattle.types.specs.declared.Answer.{Answer}
+use Rattle.types.specs.declared.Answer.the-variants.{Accepted, Refused}
 use Rattle.seam_memory.specs.declared.Handler.{Handler}
-use Rattle.seam_calls.specs.declared.Told.{Told}
+use Rattle.seam_rules.specs.declared.Done.{Done}
+use Rattle.seam_calls.specs.declared.light.Light.{Light}
+use Rattle.seam_calls.specs.declared.step.Told.{Told}
+use Rattle.seam_calls.specs.declared.deliver.Heard.{Heard}
+use Rattle.seam_calls.specs.Parts.{keptLight, lightOf, lightHeld, bulkHeld, queueHeld}
 
--- a refusal stores what was there
+-- ---- a step
+
 abbrev pub keptTold : ℕ → Handler → Told
-keptTold code h =
-    record {
-      code = code;
-      heavy = false;
-      due = Nothing;
-      eof = noEof;
-      step = h .step;
-      transaction = h .transaction;
-      file = h .file;
-      marks = h .marks;
-      report = h .report;
-    }
+keptTold code h = record { code = code; heavy = false; light = keptLight h; bulk = Kept }
 
-abbrev pub madeTold : State → Eof → Due → ℕ → Told
-madeTold s e d n =
+abbrev pub madeTold : State → Outcome → Told
+madeTold s o =
     record {
       code = 0;
-      heavy = isHeavy d;
-      due = d;
-      eof = e;
-      step = stepNo (lightStep s d);
-      transaction = fixedStored (s .fixed);
-      file = lightFile s d;
-      marks = marksStored (lightMarks s d);
-      report = reportOf (record { answer = Accepted; length = n; events = eventsOf s d; state = s });
+      heavy = not (isKept (bulkOf s (o .due)));
+      light = lightOf (s .fixed) (afterWith s (o .eof) (o .due)) (reportOf (record { answer = Accepted; length = o .length; events = eventsOf s (o .due); state = s }));
+      bulk = bulkOf s (o .due);
     }
 
-unfoldable pub toldBy : Handler → State → List ℕ → Due → ℕ → Told
-toldBy h s file d room =
-    let n = length (bytesFor s file (sendingOf s file d)) in
-    pick (ltb room n) (keptTold 31 h) (madeTold s (eofIn (sendingOf s file d)) d n)
+abbrev pub toldAs : Handler → State → Outcome → Answer → Told
+toldAs h s o Accepted = madeTold s o
+toldAs h s o (Refused k) = keptTold (answerNo (Refused k)) h
 
-unfoldable pub toldOf : Handler → List ℕ → ℕ → List ℕ → Told
-toldOf h file expired out =
-    pick (changed (stateOf h) (length file)) (keptTold 30 h) (toldBy h (stateOf h) file (dueOf (stateOf h) (flagOf expired)) (length out))
+abbrev pub toldBy : Handler → State → Outcome → Told
+toldBy h s o = toldAs h s o (o .answer)
 
--- where the names or the queue may change
-unfoldable pub heavyHeld : Handler → Told → Handler
-heavyHeld h d = heldOf (h .config) (heavyWith (stateOf h) (d .eof) (d .due)) (d .report)
+abbrev pub toldHeld : Handler → Told → Handler
+toldHeld h d = pick (d .heavy) (bulkHeld h (d .light) (d .bulk)) (lightHeld h (d .light))
 
--- and where they don't
-unfoldable pub lightHeld : Handler → Told → Handler
-lightHeld h d =
-    record {
-      config = h .config;
-      number = h .number;
-      step = d .step;
-      transaction = d .transaction;
-      names = h .names;
-      file = d .file;
-      queue = h .queue;
-      marks = d .marks;
-      report = d .report;
-    }
+abbrev pub toldDone : Handler → Told → Done
+toldDone h d = record { code = d .code; held = toldHeld h d }
 
-abbrev pub heldBy : Handler → Told → Handler
-heldBy h d = pick (d .heavy) (heavyHeld h d) (lightHeld h d)
+-- ---- a delivery
+
+abbrev pub lightAs : Handler → State → Effect → Answer → Light
+lightAs h s e Accepted = lightOf (s .fixed) (movedBy s e) noReport
+lightAs h s e (Refused k) = keptLight h
+
+abbrev pub lightBy : Handler → State → Effect → Light
+lightBy h s e = lightAs h s e (answerBy e)
+
+abbrev pub heardBy : Handler → State → Effect → Heard
+heardBy h s e = record { code = answerNo (answerBy e); heavy = movesQueue e; light = lightBy h s e; effect = e }
+
+abbrev pub heardHeld : Handler → List ℕ → Heard → Handler
+heardHeld h bytes d = pick (d .heavy) (queueHeld h bytes (d .light) (d .effect)) (lightHeld h (d .light))
+
+abbrev pub heardDone : Handler → List ℕ → Heard → Done
+heardDone h bytes d = record { code = d .code; held = heardHeld h bytes d }

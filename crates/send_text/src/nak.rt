@@ -4,8 +4,8 @@ use crate::text::numbers;
 use crate::text::on;
 use crate::text::text;
 use fields::lesser;
-use pdu_read_nak::request_at;
-use source_nak::next_pair;
+use pdu_read_nak::pair_from;
+use source_nak::first_pair;
 use source_queue::is_metadata;
 use types::SegmentRequest;
 
@@ -27,8 +27,9 @@ fn requests(out: &mut [u8], at: usize, pdu: &[u8], large: bool, first: usize, n:
     let mut k = 0;
     while k < n {
         p = comma(out, p, k);
-        p = request(out, p, request_at(pdu, large, q));
-        q = next_pair(pdu.len(), large, q);
+        let r = pair_from(pdu, large, q);
+        p = request(out, p, r.request);
+        q = r.next;
         k += 1;
     }
     p
@@ -41,9 +42,9 @@ fn more(out: &mut [u8], at: usize, yes: bool) -> usize {
     at
 }
 
-// A NAK with n requests, of which it says the first eight. They stand behind the directive code and the scope, which is as wide as a request.
+// A NAK with n requests, of which it says the first eight.
 pub fn nak(out: &mut [u8], at: usize, pdu: &[u8], start: usize, large: bool, n: usize) -> usize {
-    let first = next_pair(pdu.len(), large, on(start, 1));
+    let first = first_pair(pdu.len(), large, start);
     let p = text(out, at, b"NAK for");
     let q = requests(out, p, pdu, large, first, lesser(n, 8));
     more(out, q, n > 8)

@@ -1,7 +1,7 @@
--- The refusals in the code's order, 23 then 22, are the definition's.
+-- 23 first, then the table: as the definition has it.
 -- Assumes nothing.
 use mathlib.Core.Path.{_≡_, refl, _∙_}
-use mathlib.Core.Bool.{Bool, true, false, false≢true}
+use mathlib.Core.Bool.{Bool, true, false}
 use mathlib.Core.List.{List}
 use Prim.Native.Nat.{ℕ}
 use Rattle.basis.specs.Pick.{pick}
@@ -12,10 +12,8 @@ use Rattle.types.specs.declared.Done.{Done}
 use Rattle.types.specs.declared.Frame.{Frame}
 use Rattle.types.specs.declared.State.{State}
 use Rattle.types.specs.declared.Meaning.{Meaning}
-use Rattle.types.specs.declared.Verdict.{Verdict}
-use Rattle.types.specs.declared.Verdict.the-variants.{Enqueue, Move, Refuse, NoEffect}
-use Rattle.types.specs.declared.Refusal.the-variants.{OtherTransaction, UnexpectedPdu}
-use Rattle.source_deliver.specs.Asked.{isOther, isUnexpected}
+use Rattle.types.specs.declared.Refusal.the-variants.{OtherTransaction}
+use Rattle.source_deliver.specs.Asked.{isOther}
 
 -- the two tests of `isOther` over any flags
 turned : {A : Type 0} (idle same : Bool) (x y : A) → pick (pick idle false (pick same false true)) y x ≡ pick idle x (pick same x y)
@@ -35,13 +33,3 @@ module _ (s : State) (bytes : List ℕ) (f : Frame) (m : Meaning) (r : Done) whe
 
   pub by-table : isOther s f ≡ false → r ≡ byVerdict s bytes f m (verdictOf (s .step) m) → r ≡ heard s bytes f m
   by-table e p = pick-f (isOther s f) r _ _ e p ∙ in-order s bytes f m
-
-  -- what the table refuses is 22
-  refuse : (v : Verdict) → isUnexpected v ≡ true → refused s UnexpectedPdu ≡ byVerdict s bytes f m v
-  refuse Enqueue e = absurd (false≢true e)
-  refuse Move e = absurd (false≢true e)
-  refuse Refuse e = refl
-  refuse NoEffect e = absurd (false≢true e)
-
-  pub in-22 : isOther s f ≡ false → isUnexpected (verdictOf (s .step) m) ≡ true → r ≡ refused s UnexpectedPdu → r ≡ heard s bytes f m
-  in-22 e u p = by-table e (p ∙ refuse (verdictOf (s .step) m) u)

@@ -1,4 +1,4 @@
--- What a PDU asks for, as requests from a place that stops at the end of the delivered bytes.
+-- What a PDU asks for, as requests from a place that stops at the end of the delivered bytes; and what it moves.
 -- Assumes nothing.
 use mathlib.Core.Path.{_≡_, refl, sym}
 use mathlib.Core.List.{List}
@@ -6,12 +6,14 @@ use Prim.Native.Nat.{ℕ, _+_, min}
 use lib.ListN.{length}
 use Rattle.rules_pdu.specs.Numbers.{F}
 use Rattle.rules_pdu.specs.Reading.{requestsFrom}
-use Rattle.rules.specs.Deliver.{requestsIn, asked}
+use Rattle.rules.specs.Deliver.{requestsIn, asked, accepted, movedBy}
 use Rattle.types.specs.declared.Frame.{Frame}
+use Rattle.types.specs.declared.State.{State}
 use Rattle.types.specs.declared.Meaning.{Meaning}
 use Rattle.types.specs.declared.Meaning.the-variants.{Finished, AckOfEof, Nak, KeepAlive}
 use Rattle.source_nak.proofs.Requests.{at-end}
 use Rattle.source_deliver.specs.Asked.{askedCount}
+use Rattle.source_deliver.specs.Effects.{doneBy, moveOf}
 
 -- a place that stops at the end asks for the same
 pub stops : (bytes : List ℕ) (f : Frame) (n : ℕ)
@@ -26,3 +28,10 @@ asks bytes f (Finished p) = refl
 asks bytes f AckOfEof = refl
 asks bytes f (Nak n) = refl
 asks bytes f (KeepAlive p) = refl
+
+-- what the table's "move" comes to
+pub moves : (s : State) (bytes : List ℕ) (m : Meaning) → doneBy s bytes (moveOf m) ≡ accepted (movedBy s m)
+moves s bytes (Finished p) = refl
+moves s bytes AckOfEof = refl
+moves s bytes (Nak n) = refl
+moves s bytes (KeepAlive p) = refl

@@ -9,8 +9,6 @@ use Rattle.types.specs.declared.Frame.{Frame}
 use Rattle.types.specs.declared.State.{State}
 use Rattle.types.specs.declared.Meaning.{Meaning}
 use Rattle.types.specs.declared.Meaning.the-variants.{Finished, AckOfEof, Nak, KeepAlive}
-use Rattle.types.specs.declared.Verdict.{Verdict}
-use Rattle.types.specs.declared.Verdict.the-variants.{Enqueue, Move, Refuse, NoEffect}
 
 -- how many requests it makes: none if it is no NAK
 abbrev pub askedCount : Meaning → ℕ
@@ -22,10 +20,3 @@ askedCount (KeepAlive p) = 0
 -- whether it is another transaction's
 unfoldable pub isOther : State → Frame → Bool
 isOther s f = pick (isIdle (s .step)) false (pick (sameTransaction (s .fixed .head) (f .head)) false true)
-
--- whether the table refuses it
-abbrev pub isUnexpected : Verdict → Bool
-isUnexpected Enqueue = false
-isUnexpected Move = false
-isUnexpected Refuse = true
-isUnexpected NoEffect = false

@@ -1,1 +1,2 @@
 pub mod Asked
+pub mod Effects

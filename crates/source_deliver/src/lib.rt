@@ -1,14 +1,13 @@
 // A delivery: what the bytes say, then what the table of steps answers. Any state and any bytes are taken. The refusals are tried in
 // the order 20, 21, 23, 22, 24, 25, and a refused delivery changes nothing.
-mod answer;
+pub mod effect;
 mod nak;
 
-use crate::answer::accepted;
-use crate::answer::refused;
+use crate::effect::Effect;
+use crate::effect::done_by;
 use crate::nak::handle_nak_pdu;
 use pdu_read::directive::read_body;
 use pdu_read_header::read_header;
-use source_moved::moved_by;
 use source_table::verdict_of;
 use types::Body;
 use types::Done;
@@ -20,9 +19,10 @@ use types::Refusal;
 use types::State;
 use types::Verdict;
 ghost use mathlib.Core.Path.{_≡_};
-ghost use Rattle.rules.specs.Deliver.{sameTransaction, verdictOf, byVerdict, heard as heardIs, byBody};
+ghost use Rattle.rules.specs.Deliver.{sameTransaction, byVerdict, heard as heardIs, byBody, deliverSpec};
 ghost use Rattle.rules.specs.Calls.{DeliverMeets};
-ghost use Rattle.source_deliver.specs.Asked.{askedCount, isOther, isUnexpected};
+ghost use Rattle.source_deliver.specs.Asked.{askedCount, isOther};
+ghost use Rattle.source_deliver.specs.Effects.{doneBy, moveOf};
 
 // ---- the table at work
 
@@ -38,14 +38,26 @@ fn asked_count(m: Meaning) -> usize
     }
 }
 
-fn by_verdict(s: State, bytes: &[u8], f: Frame, m: Meaning, v: Verdict) -> Done
-    ensures { λ r. ⌜ r ≡ byVerdict s (now (bytes .entry)) f m v ⌝ }
+// An ACK of EOF and a Finished PDU alone move anything.
+fn move_of(m: Meaning) -> Effect
+    ensures { λ r. ⌜ r ≡ moveOf m ⌝ }
+{
+    match m {
+        Meaning::Finished(p) => Effect::Close(p),
+        Meaning::AckOfEof => Effect::WaitForFinished,
+        Meaning::Nak(_) => Effect::NoEffect,
+        Meaning::KeepAlive(_) => Effect::NoEffect,
+    }
+}
+
+fn by_verdict(s: State, bytes: &[u8], f: Frame, m: Meaning, v: Verdict) -> Effect
+    ensures { λ r. ⌜ doneBy s (now (bytes .entry)) r ≡ byVerdict s (now (bytes .entry)) f m v ⌝ }
 {
     match v {
         Verdict::Enqueue => handle_nak_pdu(s, bytes, f, asked_count(m)),
-        Verdict::Move => accepted(moved_by(s, m)),
-        Verdict::Refuse => refused(s, Refusal::UnexpectedPdu),
-        Verdict::NoEffect => accepted(s),
+        Verdict::Move => move_of(m),
+        Verdict::Refuse => Effect::Refuse(Refusal::UnexpectedPdu),
+        Verdict::NoEffect => Effect::NoEffect,
     }
 }
 
@@ -64,7 +76,7 @@ fn same_transaction(a: Head, b: Head) -> bool
     a.destination.1 == b.destination.1
 }
 
-// 23: Idle has no transaction to compare with.
+// Idle has no transaction to compare with.
 fn is_other(s: State, f: Frame) -> bool
     ensures { λ r. ⌜ r ≡ isOther s f ⌝ }
 {
@@ -78,56 +90,47 @@ fn is_other(s: State, f: Frame) -> bool
     true
 }
 
-// 22: what the table refuses.
-fn is_unexpected(v: Verdict) -> bool
-    ensures { λ r. ⌜ r ≡ isUnexpected v ⌝ }
+// 23, then what the table says: 22 among it.
+fn heard(s: State, bytes: &[u8], f: Frame, m: Meaning) -> Effect
+    ensures { λ r. ⌜ doneBy s (now (bytes .entry)) r ≡ heardIs s (now (bytes .entry)) f m ⌝ }
 {
-    match v {
-        Verdict::Enqueue => false,
-        Verdict::Move => false,
-        Verdict::Refuse => true,
-        Verdict::NoEffect => false,
+    if is_other(s, f) {
+        return Effect::Refuse(Refusal::OtherTransaction);
     }
-}
-
-// 23 before 22.
-fn heard(s: State, bytes: &[u8], f: Frame, m: Meaning) -> Done
-    ensures { λ r. ⌜ r ≡ heardIs s (now (bytes .entry)) f m ⌝ }
-{
     let step = s.step;
     let v = verdict_of(step, m);
-    let other = is_other(s, f);
-    let unexpected = is_unexpected(v);
-    if other {
-        return refused(s, Refusal::OtherTransaction);
-    }
-    if unexpected {
-        return refused(s, Refusal::UnexpectedPdu);
-    }
     by_verdict(s, bytes, f, m, v)
 }
 
 // ---- what the bytes say
 
-fn by_body(s: State, bytes: &[u8], f: Frame, b: Body) -> Done
-    ensures { λ r. ⌜ r ≡ byBody s (now (bytes .entry)) f b ⌝ }
+fn by_body(s: State, bytes: &[u8], f: Frame, b: Body) -> Effect
+    ensures { λ r. ⌜ doneBy s (now (bytes .entry)) r ≡ byBody s (now (bytes .entry)) f b ⌝ }
 {
     match b {
-        Body::Malformed => refused(s, Refusal::Malformed),
-        Body::CantProcess => refused(s, Refusal::CantProcessPacketType),
+        Body::Malformed => Effect::Refuse(Refusal::Malformed),
+        Body::CantProcess => Effect::Refuse(Refusal::CantProcessPacketType),
         Body::Means(m) => heard(s, bytes, f, m),
+    }
+}
+
+// What a delivery comes to.
+pub fn effect_of(s: State, bytes: &[u8]) -> Effect
+    ensures { λ r. ⌜ doneBy s (now (bytes .entry)) r ≡ deliverSpec s (now (bytes .entry)) ⌝ }
+{
+    let framed = read_header(bytes);
+    match framed {
+        Framed::Malformed => Effect::Refuse(Refusal::Malformed),
+        Framed::Whole(f) => {
+            let b = read_body(bytes, f);
+            by_body(s, bytes, f, b)
+        }
     }
 }
 
 pub fn deliver(s: State, bytes: &[u8]) -> Done
     ensures { λ r. ⌜ DeliverMeets s (now (bytes .entry)) r ⌝ }
 {
-    let framed = read_header(bytes);
-    match framed {
-        Framed::Malformed => refused(s, Refusal::Malformed),
-        Framed::Whole(f) => {
-            let b = read_body(bytes, f);
-            by_body(s, bytes, f, b)
-        }
-    }
+    let e = effect_of(s, bytes);
+    done_by(s, bytes, e)
 }

@@ -1,7 +1,8 @@
 // The requests of a NAK, read from the delivered bytes one pair after another: once to be judged, once to be stored behind the queue. A pair past the end is (0, 0) wherever it stands, so a
 // place that would lie behind the end stays at it.
 use fields::bit_of;
-use pdu_read_nak::request_from;
+use pdu_read_header::field::size_width;
+use pdu_read_nak::pair_from;
 use source_queue::invalid;
 use source_queue::owes;
 use types::Queue;
@@ -15,18 +16,18 @@ ghost use Rattle.rules_pdu.specs.Numbers.{F};
 ghost use Rattle.rules.specs.Queues.{owes, anyInvalid, owing, pushAll};
 ghost use Rattle.rules_pdu.specs.Reading.{requestsFrom};
 
-// The place of the next pair, or the end.
-pub fn next_pair(n: usize, large: bool, at: usize) -> usize
-    ensures { λ r. ⌜ r ≡ min (at + F large + F large) n ⌝ }
+// Where the first pair of a body stands: behind the code and the scope, which is as long as a pair; or the end.
+pub fn first_pair(n: usize, large: bool, start: usize) -> usize
+    ensures { λ r. ⌜ r ≡ min (start + 1 + F large + F large) n ⌝ }
 {
-    if n <= at {
+    let w = 1 + 2 * size_width(large);
+    if n <= start {
         return n;
     }
-    let w = 8 + 8 * (bit_of(large) as usize);
-    if n - at <= w {
+    if n - start <= w {
         return n;
     }
-    at + w
+    start + w
 }
 
 // What one pass over the requests finds.
@@ -55,10 +56,10 @@ pub fn judge(bytes: &[u8], large: bool, at: usize, n: usize, progress: u64) -> J
     let mut bad = false;
     let mut m = 0;
     while 0 < k {
-        let p = request_from(bytes, large, i);
-        bad = either(bad, invalid(progress, p));
-        m += bit_of(owes(p)) as usize;
-        i = next_pair(bytes.len(), large, i);
+        let p = pair_from(bytes, large, i);
+        bad = either(bad, invalid(progress, p.request));
+        m += bit_of(owes(p.request)) as usize;
+        i = p.next;
         k -= 1;
     }
     Judged {
@@ -85,13 +86,14 @@ pub fn push_all(q: Queue, bytes: &[u8], large: bool, at: usize, n: usize) -> Que
     let mut i = at;
     let mut k = n;
     while 0 < k {
-        let p = request_from(bytes, large, i);
+        let p = pair_from(bytes, large, i);
         let c = u.count;
-        if takes_place(c, p) {
-            u.places[c] = p;
+        let r = p.request;
+        if takes_place(c, r) {
+            u.places[c] = r;
             u.count = c + 1;
         }
-        i = next_pair(bytes.len(), large, i);
+        i = p.next;
         k -= 1;
     }
     u

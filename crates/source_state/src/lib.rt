@@ -91,7 +91,7 @@ pub fn start_positive_ack_procedure(s: State, e: Eof) -> State
     to_step(t, TransactionStep::WaitingForEofAck)
 }
 
-fn empty_queue() -> Queue
+pub fn empty_queue() -> Queue
     ensures { λ r. ⌜ r ≡ emptyQueue ⌝ }
 {
     let places = [SegmentRequest { start: 0, end: 0 }; 64];

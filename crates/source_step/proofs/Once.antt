@@ -10,20 +10,20 @@ use lib.ListN.{length}
 use borrow.Author.Tests.{leb-false}
 use Rattle.basis.proofs.Pick.{cases}
 use Rattle.rules_pdu.specs.Layout.{writtenOf}
-use Rattle.rules.specs.Step.{actionFor, faultDue, ackExpired, checkExpired, dueAt, eofOwed, dueOf, sendingOf, bytesFor, afterOf, eventsOf, refusedStep, made}
+use Rattle.rules.specs.Step.{actionFor, faultDue, ackExpired, checkExpired, dueAt, eofOwed, dueOf, sendingOf, bytesFor, afterOf, eventsOf, made}
 use Rattle.types.specs.declared.State.{State}
 use Rattle.types.specs.declared.TransactionStep.{TransactionStep}
 use Rattle.types.specs.declared.TransactionStep.the-variants.{Idle, SendingMetadata, SendingFileData, SendingEof, WaitingForEofAck, WaitingForFinished, Closing}
 use Rattle.types.specs.declared.Due.{Due}
 use Rattle.types.specs.declared.Due.the-variants.{CancelEof, Repair, Metadata, Data, NoErrorEof, EofAgain, FaultCancel, FaultIgnore, FaultAbandon, Close, Nothing}
 use Rattle.types.specs.declared.Sending.{Sending}
-use Rattle.types.specs.declared.Stepped.{Stepped}
 use Rattle.types.specs.declared.Written.{Written}
 use Rattle.types.specs.declared.Written.the-variants.{Short, Wrote}
 use Rattle.types.specs.declared.Refusal.the-variants.{OutTooSmall}
 use Rattle.types.specs.declared.Answer.the-variants.{Accepted}
 use Rattle.source_step.proofs.Written.{on-short, on-wrote}
-use Rattle.source_after.specs.Once.{eofIn, afterWith, acceptedStep, Countable}
+use Rattle.source_after.specs.Once.{eofIn, afterWith, Countable}
+use Rattle.source_step.specs.Outcomes.{refusedBy, acceptedBy, steppedBy}
 
 pub after-once : (s : State) (file : List ℕ) (d : Due) → afterWith s (eofIn (sendingOf s file d)) d ≡ afterOf s file d
 after-once s file CancelEof = refl
@@ -39,18 +39,18 @@ after-once s file Close = refl
 after-once s file Nothing = refl
 
 -- what a writer answered, w, is the definition's test of the room
-module _ (s : State) (file : List ℕ) (d : Due) (p : Sending) (out : List ℕ) (w : Written) (r : Stepped) (sent : p ≡ sendingOf s file d) (said : w ≡ writtenOf (bytesFor s file p) out) where
+module _ (s : State) (file : List ℕ) (d : Due) (p : Sending) (out : List ℕ) (w : Written) (sent : p ≡ sendingOf s file d) (said : w ≡ writtenOf (bytesFor s file p) out) where
   said-of : w ≡ writtenOf (bytesFor s file (sendingOf s file d)) out
   said-of = rw sent at said
 
-  pub made-short : w ≡ Short → r ≡ refusedStep s OutTooSmall → r ≡ made s file d (length out)
+  pub made-short : w ≡ Short → steppedBy s (refusedBy OutTooSmall) ≡ made s file d (length out)
   unfolding made
-  made-short e f = f ∙ on-short (bytesFor s file (sendingOf s file d)) out _ _ (sym e ∙ said-of)
+  made-short e = on-short (bytesFor s file (sendingOf s file d)) out _ _ (sym e ∙ said-of)
 
-  pub made-wrote : (n : ℕ) → w ≡ Wrote n → r ≡ acceptedStep s p d n → r ≡ made s file d (length out)
+  pub made-wrote : (n : ℕ) → w ≡ Wrote n → steppedBy s (acceptedBy d (eofIn p) n) ≡ made s file d (length out)
   unfolding made
-  made-wrote n e f =
-      f ∙ rw (sent, after-once s file d)
+  made-wrote n e =
+      rw (sent, after-once s file d)
       (on-wrote (bytesFor s file (sendingOf s file d)) out n _
       (λ (k : ℕ). record { answer = Accepted; length = k; events = eventsOf s d; state = afterOf s file d }) (sym e ∙ said-of))
 

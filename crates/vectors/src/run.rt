@@ -319,19 +319,19 @@ fn ack_vector(s: &[u8], at: usize) -> Ran {
 
 // The n pairs of a delivered NAK, held to the vector's.
 fn pairs_agree(delivery: &[u8], large: bool, first: usize, s: &[u8], at: usize, n: usize) -> bool {
-    let width = pdu_read_header::field::size_width(large);
     let mut k = 0;
     let mut p = first;
     let mut q = at;
     while k < n {
-        let r = pdu_read_nak::request_from(delivery, large, p);
+        let pair = pdu_read_nak::pair_from(delivery, large, p);
+        let r = pair.request;
         if r.start != fields::num_at(s, q, 8) {
             return false;
         }
         if r.end != fields::num_at(s, take::on(q, 8), 8) {
             return false;
         }
-        p = take::on(p, 2 * width);
+        p = pair.next;
         q = take::on(q, 16);
         k += 1;
     }

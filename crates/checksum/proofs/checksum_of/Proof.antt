@@ -9,11 +9,11 @@ use Rattle.checksum.proofs.checksum_of.Tie as tie
 calc-modular-checksum-requires : tie.Need-calc-modular-checksum-requires
 calc-modular-checksum-requires c κs = search needs
 
-crc32c-of-requires : tie.Need-crc32c-of-requires
-crc32c-of-requires c κs = search needs
+crc32-castagnoli-requires : tie.Need-crc32-castagnoli-requires
+crc32-castagnoli-requires c κs = search needs
 
-crc32-of-requires : tie.Need-crc32-of-requires
-crc32-of-requires c κs = search needs
+crc32-ethernet-requires : tie.Need-crc32-ethernet-requires
+crc32-ethernet-requires c κs = search needs
 
 returns : tie.Need-returns
 unfolding checksumOf
@@ -21,11 +21,11 @@ returns c = simp (c .before .match .keys1, c .calc-modular-checksum .ensures)
 
 returns-2 : tie.Need-returns-2
 unfolding checksumOf
-returns-2 c = simp (c .before .match .keys2, c .crc32c-of .ensures)
+returns-2 c = simp (c .before .match .keys2, c .crc32-castagnoli .ensures)
 
 returns-3 : tie.Need-returns-3
 unfolding checksumOf
-returns-3 c = simp (c .before .match .keys3, c .crc32-of .ensures)
+returns-3 c = simp (c .before .match .keys3, c .crc32-ethernet .ensures)
 
 returns-4 : tie.Need-returns-4
 unfolding checksumOf
@@ -40,8 +40,8 @@ checksum-of-spec =
     tie.close
     (tie.spec
     calc-modular-checksum-requires
-    crc32c-of-requires
-    crc32-of-requires
+    crc32-castagnoli-requires
+    crc32-ethernet-requires
     returns
     returns-2
     returns-3

@@ -20,12 +20,12 @@ put-requires c κs = search needs
 no-report-requires : tie.Need-no-report-requires
 no-report-requires c κs = search needs
 
-by-answer-of-put-requires : tie.Need-by-answer-of-put-requires
-by-answer-of-put-requires c κs = search needs
+by-answer-requires : tie.Need-by-answer-requires
+by-answer-requires c κs = search needs
 
 returns : tie.Need-returns
 unfolding putDone
-returns c = rw ((c .by-answer-of-put .ensures), (c .before .no-report .ensures), (c .before .before .before .put .ensures), (c .before .before .before .before .request-of .ensures), (c .before .before .before .before .before .config-of .ensures), (c .before .before .before .before .before .before .state-of .ensures))
+returns c = rw ((c .by-answer .ensures), (c .before .no-report .ensures), (c .before .before .before .put .ensures), (c .before .before .before .before .request-of .ensures), (c .before .before .before .before .before .config-of .ensures), (c .before .before .before .before .before .before .state-of .ensures))
 
 pub put-done-spec : {M : Type 1} → statement M
 put-done-spec =
@@ -36,5 +36,5 @@ put-done-spec =
     request-of-requires
     put-requires
     no-report-requires
-    by-answer-of-put-requires
+    by-answer-requires
     returns)

@@ -7,14 +7,8 @@ use Rattle.source_deliver.proofs.by_body.Tie as tie
 enum-told : tie.Need-enum-told
 enum-told c = search needs
 
-refused-requires : tie.Need-refused-requires
-refused-requires c κs = search needs
-
 enum-told-2 : tie.Need-enum-told-2
 enum-told-2 c = search needs
-
-refused-requires-2 : tie.Need-refused-requires-2
-refused-requires-2 c κs = search needs
 
 enum-known-b : tie.Need-enum-known-b
 enum-known-b c = search needs
@@ -23,24 +17,15 @@ heard-requires : tie.Need-heard-requires
 heard-requires c κs = search needs
 
 returns : tie.Need-returns
-returns c = rw (c .refused .ensures, c .before .enum-told .given .1)
+returns c = rw (c .enum-told .given .1)
 
 returns-2 : tie.Need-returns-2
-returns-2 c = rw (c .refused2 .ensures, c .before .enum-told2 .given .1)
+returns-2 c = rw (c .enum-told2 .given .1)
 
 returns-3 : tie.Need-returns-3
-returns-3 c = rw (c .heard .ensures, c .before .before .b .given .1)
+returns-3 c = rw (c .before .before .b .given .1) (c .heard .ensures)
 
 pub by-body-spec : {M : Type 1} → statement M
 by-body-spec =
     tie.close
-    (tie.spec
-    enum-told
-    refused-requires
-    enum-told-2
-    refused-requires-2
-    enum-known-b
-    heard-requires
-    returns
-    returns-2
-    returns-3)
+    (tie.spec enum-told enum-told-2 enum-known-b heard-requires returns returns-2 returns-3)

@@ -1,8 +1,8 @@
 -- Each arm is the definition's clause.
 -- Assumes nothing.
-use mathlib.Core.Path.{ap}
+use mathlib.Core.Path.{ap, _∙_}
 use Rattle.rules.specs.Deliver.{nakOf}
-use Rattle.source_deliver.proofs.Requests.{asks}
+use Rattle.source_deliver.proofs.Requests.{asks, moves}
 use borrow.Author.Needs.{needs}
 use Rattle.source_deliver.proofs.by_verdict.Statement.{statement}
 use Rattle.source_deliver.proofs.by_verdict.Tie as tie
@@ -19,36 +19,28 @@ handle-nak-pdu-requires c κs = search needs
 enum-told-2 : tie.Need-enum-told-2
 enum-told-2 c = search needs
 
-moved-by-requires : tie.Need-moved-by-requires
-moved-by-requires c κs = search needs
-
-accepted-requires : tie.Need-accepted-requires
-accepted-requires c κs = search needs
+move-of-requires : tie.Need-move-of-requires
+move-of-requires c κs = search needs
 
 enum-told-3 : tie.Need-enum-told-3
 enum-told-3 c = search needs
 
-refused-requires : tie.Need-refused-requires
-refused-requires c κs = search needs
-
 enum-told-4 : tie.Need-enum-told-4
 enum-told-4 c = search needs
 
-accepted-requires-2 : tie.Need-accepted-requires-2
-accepted-requires-2 c κs = search needs
-
 returns : tie.Need-returns
 returns c = let a = c .before .before .before .before .before .args in
-    rw (c .handle-nak-pdu .ensures, c .before .asked-count .ensures, c .before .before .enum-told .given .1) (ap (nakOf (a .s)) (asks (a .bytes .now) (a .f) (a .m)))
+    rw (c .before .before .enum-told .given .1) (rw (c .before .asked-count .ensures) at (c .handle-nak-pdu .ensures) ∙ ap (nakOf (a .s)) (asks (a .bytes .now) (a .f) (a .m)))
 
 returns-2 : tie.Need-returns-2
-returns-2 c = rw (c .accepted .ensures, c .before .moved-by .ensures, c .before .before .enum-told2 .given .1)
+returns-2 c = let a = c .before .before .before .before .args in
+    rw (c .move-of .ensures, c .before .enum-told2 .given .1) (moves (a .s) (a .bytes .now) (a .m))
 
 returns-3 : tie.Need-returns-3
-returns-3 c = rw (c .refused .ensures, c .before .enum-told3 .given .1)
+returns-3 c = rw (c .enum-told3 .given .1)
 
 returns-4 : tie.Need-returns-4
-returns-4 c = rw (c .accepted2 .ensures, c .before .enum-told4 .given .1)
+returns-4 c = rw (c .enum-told4 .given .1)
 
 pub by-verdict-spec : {M : Type 1} → statement M
 by-verdict-spec =
@@ -58,12 +50,9 @@ by-verdict-spec =
     asked-count-requires
     handle-nak-pdu-requires
     enum-told-2
-    moved-by-requires
-    accepted-requires
+    move-of-requires
     enum-told-3
-    refused-requires
     enum-told-4
-    accepted-requires-2
     returns
     returns-2
     returns-3

@@ -1,45 +1,18 @@
--- The header and the body that the code read are the definition's; the arm that it took is the definition's clause.
+-- What the effect leaves is what is right.
 -- Assumes nothing.
-use Rattle.rules.specs.Deliver.{deliverSpec}
+use mathlib.Core.Path.{_∙_}
 use borrow.Author.Needs.{needs}
 use Rattle.source_deliver.proofs.deliver.Statement.{statement}
 use Rattle.source_deliver.proofs.deliver.Tie as tie
 
-read-header-requires : tie.Need-read-header-requires
-read-header-requires c κs = search needs
+effect-of-requires : tie.Need-effect-of-requires
+effect-of-requires c κs = search needs
 
-enum-told : tie.Need-enum-told
-enum-told c = search needs
-
-refused-requires : tie.Need-refused-requires
-refused-requires c κs = search needs
-
-enum-known-framed : tie.Need-enum-known-framed
-enum-known-framed c = search needs
-
-read-body-requires : tie.Need-read-body-requires
-read-body-requires c κs = search needs
-
-by-body-requires : tie.Need-by-body-requires
-by-body-requires c κs = search needs
+done-by-requires : tie.Need-done-by-requires
+done-by-requires c κs = search needs
 
 returns : tie.Need-returns
-unfolding deliverSpec
-returns c = rw (c .refused .ensures, ← (c .before .before .before .read-header .ensures), c .before .enum-told .given .1)
-
-returns-2 : tie.Need-returns-2
-unfolding deliverSpec
-returns-2 c = rw (c .by-body .ensures, c .before .read-body .ensures, ← (c .before .before .before .before .before .read-header .ensures), c .before .before .before .framed .given .1)
+returns c = c .done-by .ensures ∙ c .before .effect-of .ensures
 
 pub deliver-spec : {M : Type 1} → statement M
-deliver-spec =
-    tie.close
-    (tie.spec
-    read-header-requires
-    enum-told
-    refused-requires
-    enum-known-framed
-    read-body-requires
-    by-body-requires
-    returns
-    returns-2)
+deliver-spec = tie.close (tie.spec effect-of-requires done-by-requires returns)

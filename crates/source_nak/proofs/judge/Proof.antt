@@ -5,6 +5,7 @@ use mathlib.Core.Bool.{true}
 use Prim.Native.Nat.{_+_, _≤_}
 use Rattle.basis.specs.Pick.{pick}
 use Rattle.rules_pdu.specs.Reading.{requestsFrom}
+use Rattle.pdu_read_nak.specs.Reader.{pairAt}
 use Rattle.rules.specs.Queues.{anyInvalid, owing}
 use Rattle.source_nak.proofs.Requests.{bad-turn, bad-end, owing-turn, owing-end}
 use borrow.Author.Needs.{needs}
@@ -22,8 +23,8 @@ abbrev μ-loop : tie.MeasureT-loop
 loop-holds : tie.Need-loop-holds Inv-loop μ-loop
 loop-holds c = search needs
 
-request-from-requires : tie.Need-request-from-requires Inv-loop μ-loop
-request-from-requires c κs = search needs
+pair-from-requires : tie.Need-pair-from-requires Inv-loop μ-loop
+pair-from-requires c κs = search needs
 
 invalid-requires : tie.Need-invalid-requires Inv-loop μ-loop
 invalid-requires c κs = search needs
@@ -43,9 +44,6 @@ cast-m c = search needs
 add-m : tie.Need-add-m Inv-loop μ-loop
 add-m c = search needs
 
-next-pair-requires : tie.Need-next-pair-requires Inv-loop μ-loop
-next-pair-requires c κs = search needs
-
 sub-k : tie.Need-sub-k Inv-loop μ-loop
 sub-k c = search needs
 
@@ -53,15 +51,16 @@ loop-less : tie.Need-loop-less Inv-loop μ-loop
 loop-less c = search needs
 
 loop-again : tie.Need-loop-again Inv-loop μ-loop
-loop-again c = let e = c .before .before .before in
+unfolding pairAt
+loop-again c = let e = c .before .before in
     let v = e .before in
     let t = v .before in
     let l = t .before .before in
     let a = l .before .before .args in (
       search needs,
-      rw (c .next-pair .ensures, c .before .bit-of .ensures .0, c .before .before .owes .ensures, t .request-from .ensures)
+      rw (c .bit-of .ensures .0, c .before .owes .ensures, t .pair-from .ensures)
           (owing-turn (a .large) (a .bytes .now) (l .loop .m) (l .loop .k) (l .loop .i) (t .before .loop-test .taken) ∙ l .loop .inv .1),
-      rw (c .next-pair .ensures, e .either .ensures, v .invalid .ensures, t .request-from .ensures)
+      rw (e .either .ensures, v .invalid .ensures, t .pair-from .ensures)
           (bad-turn (a .large) (a .bytes .now) (l .loop .bad) (a .progress) (l .loop .k) (l .loop .i) (t .before .loop-test .taken) ∙ l .loop .inv .2),
     )
 
@@ -79,14 +78,13 @@ judge-spec =
     Inv-loop
     μ-loop
     loop-holds
-    request-from-requires
+    pair-from-requires
     invalid-requires
     either-requires
     owes-requires
     bit-of-requires
     cast-m
     add-m
-    next-pair-requires
     sub-k
     loop-less
     loop-again

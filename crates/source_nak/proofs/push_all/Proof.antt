@@ -3,6 +3,7 @@
 use mathlib.Core.Path.{_≡_, sym, _∙_}
 use mathlib.Core.Logic.{⊎-elim}
 use Rattle.rules_pdu.specs.Reading.{requestsFrom}
+use Rattle.pdu_read_nak.specs.Reader.{pairAt}
 use Rattle.rules.specs.Queues.{pushOwed, pushAll}
 use Rattle.source_nak.proofs.Requests.{room, pushed, unpushed, push-turn, push-end}
 use borrow.Author.Needs.{needs}
@@ -18,26 +19,23 @@ abbrev μ-loop : tie.MeasureT-loop
 loop-holds : tie.Need-loop-holds Inv-loop μ-loop
 loop-holds c = search needs
 
-request-from-requires : tie.Need-request-from-requires Inv-loop μ-loop
-request-from-requires c κs = search needs
+pair-from-requires : tie.Need-pair-from-requires Inv-loop μ-loop
+pair-from-requires c κs = search needs
 
 takes-place-requires : tie.Need-takes-place-requires Inv-loop μ-loop
 takes-place-requires c κs = search needs
 
-mul-p : tie.Need-mul-p Inv-loop μ-loop
-mul-p c = let l = room (c .before .before .before .before .loop .u) (c .before .before .request-from .result) (sym (c .before .takes-place .ensures) ∙ c .if1 .taken) in
+mul-r : tie.Need-mul-r Inv-loop μ-loop
+mul-r c = let l = room (c .before .before .before .before .before .loop .u) _ (sym (c .before .takes-place .ensures) ∙ c .if1 .taken) in
     search needs
 
-element-set-from-p : tie.Need-element-set-from-p Inv-loop μ-loop
-element-set-from-p c = let l = room (c .before .before .before .before .loop .u) (c .before .before .request-from .result) (sym (c .before .takes-place .ensures) ∙ c .if1 .taken) in
+element-set-from-r : tie.Need-element-set-from-r Inv-loop μ-loop
+element-set-from-r c = let l = room (c .before .before .before .before .before .loop .u) _ (sym (c .before .takes-place .ensures) ∙ c .if1 .taken) in
     search needs
 
 add-u : tie.Need-add-u Inv-loop μ-loop
-add-u c = let l = room (c .before .before .before .before .loop .u) (c .before .before .request-from .result) (sym (c .before .takes-place .ensures) ∙ c .if1 .taken) in
+add-u c = let l = room (c .before .before .before .before .before .loop .u) _ (sym (c .before .takes-place .ensures) ∙ c .if1 .taken) in
     search needs
-
-next-pair-requires : tie.Need-next-pair-requires Inv-loop μ-loop
-next-pair-requires c κs = search needs
 
 sub-k : tie.Need-sub-k Inv-loop μ-loop
 sub-k c = search needs
@@ -46,16 +44,18 @@ loop-less : tie.Need-loop-less Inv-loop μ-loop
 loop-less c = search needs
 
 loop-again : tie.Need-loop-again Inv-loop μ-loop
-loop-again c = let t = c .before .before in
-    let l = t .before .before .before in
+unfolding pairAt
+loop-again c = let t = c .before in
+    let p = t .before .before in
+    let l = p .before .before in
     let a = l .before .before .args in
     let u = l .loop .u in
-    let r = t .before .request-from .result in
-    let e : c .before .if1 .u ≡ pushOwed u r =
+    let r = p .pair-from .result .request in
+    let e : c .if1 .u ≡ pushOwed u r =
     ⊎-elim (λ x. x .1 ∙ pushed u r (sym (t .takes-place .ensures) ∙ x .0 .taken)) (λ x. x .1 ∙ unpushed u r (sym (t .takes-place .ensures) ∙ x .0 .left))
-    (c .before .if1 .came) in
-    rw (c .next-pair .ensures, e, t .before .request-from .ensures)
-    (push-turn (a .large) (a .bytes .now) u (l .loop .k) (l .loop .i) (t .before .before .loop-test .taken) ∙ l .loop .inv)
+    (c .if1 .came) in
+    rw (e, p .pair-from .ensures)
+    (push-turn (a .large) (a .bytes .now) u (l .loop .k) (l .loop .i) (p .before .loop-test .taken) ∙ l .loop .inv)
 
 returns : tie.Need-returns Inv-loop μ-loop
 returns c = let l = c .before in
@@ -69,12 +69,11 @@ push-all-spec =
     Inv-loop
     μ-loop
     loop-holds
-    request-from-requires
+    pair-from-requires
     takes-place-requires
-    mul-p
-    element-set-from-p
+    mul-r
+    element-set-from-r
     add-u
-    next-pair-requires
     sub-k
     loop-less
     loop-again

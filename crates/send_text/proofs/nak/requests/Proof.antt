@@ -19,14 +19,11 @@ loop-holds c = search needs
 comma-requires : tie.Need-comma-requires Inv-loop μ-loop
 comma-requires c κs = search needs
 
-request-at-requires : tie.Need-request-at-requires Inv-loop μ-loop
-request-at-requires c κs = search needs
+pair-from-requires : tie.Need-pair-from-requires Inv-loop μ-loop
+pair-from-requires c κs = search needs
 
 request-requires : tie.Need-request-requires Inv-loop μ-loop
 request-requires c κs = search needs
-
-next-pair-requires : tie.Need-next-pair-requires Inv-loop μ-loop
-next-pair-requires c κs = search needs
 
 add-k : tie.Need-add-k Inv-loop μ-loop
 add-k c = search needs
@@ -51,9 +48,8 @@ requests-spec =
     μ-loop
     loop-holds
     comma-requires
-    request-at-requires
+    pair-from-requires
     request-requires
-    next-pair-requires
     add-k
     loop-less
     loop-again

@@ -5,19 +5,16 @@ use Rattle.vectors.proofs.run.pairs_agree.Statement.{statement}
 use Rattle.vectors.proofs.run.pairs_agree.Tie as tie
 
 abbrev Inv-loop : tie.InvT-loop
-Inv-loop delivery large first s at n width k₀ p₀ q₀ k p q = Unit {0}
+Inv-loop delivery large first s at n k₀ p₀ q₀ k p q = Unit {0}
 
 abbrev μ-loop : tie.MeasureT-loop
-μ-loop delivery large first s at n width k₀ p₀ q₀ k p q = n - k
-
-size-width-requires : tie.Need-size-width-requires Inv-loop μ-loop
-size-width-requires c κs = search needs
+μ-loop delivery large first s at n k₀ p₀ q₀ k p q = n - k
 
 loop-holds : tie.Need-loop-holds Inv-loop μ-loop
 loop-holds c = search needs
 
-request-from-requires : tie.Need-request-from-requires Inv-loop μ-loop
-request-from-requires c κs = search needs
+pair-from-requires : tie.Need-pair-from-requires Inv-loop μ-loop
+pair-from-requires c κs = search needs
 
 num-at-requires : tie.Need-num-at-requires Inv-loop μ-loop
 num-at-requires c κs = search needs
@@ -34,14 +31,8 @@ num-at-requires-2 c κs = search needs
 returns-2 : tie.Need-returns-2 Inv-loop μ-loop
 returns-2 c = search needs
 
-mul-on : tie.Need-mul-on Inv-loop μ-loop
-mul-on c = search needs
-
 on-requires-2 : tie.Need-on-requires-2 Inv-loop μ-loop
 on-requires-2 c κs = search needs
-
-on-requires-3 : tie.Need-on-requires-3 Inv-loop μ-loop
-on-requires-3 c κs = search needs
 
 add-k : tie.Need-add-k Inv-loop μ-loop
 add-k c = search needs
@@ -61,17 +52,14 @@ pairs-agree-spec =
     (tie.spec
     Inv-loop
     μ-loop
-    size-width-requires
     loop-holds
-    request-from-requires
+    pair-from-requires
     num-at-requires
     returns
     on-requires
     num-at-requires-2
     returns-2
-    mul-on
     on-requires-2
-    on-requires-3
     add-k
     loop-less
     loop-again

@@ -1,0 +1,118 @@
+// What a step comes to. Its PDU, if one is due, already stands in front of the out buffer; the state is not changed yet: a caller who holds it elsewhere has no
+// more to change than what the outcome says.
+use types::Answer;
+use types::Due;
+use types::Eof;
+use types::Refusal;
+use types::State;
+use types::Stepped;
+use types::Written;
+ghost use mathlib.Core.Path.{_≡_};
+ghost use lib.ListN.{length};
+ghost use Rattle.basis.specs.Laid.{inFront};
+ghost use Rattle.rules.specs.Step.{changed, refusedStep, sendingOf, bytesFor, made, stepSpec, stepBytes};
+ghost use Rattle.source_after.specs.Once.{Countable};
+ghost use Rattle.source_step.specs.Outcomes.{refusedBy, acceptedBy, steppedBy};
+
+// Where it is accepted: what was due, the EOF that left, if one did, and how many bytes of the out buffer are the PDU.
+pub struct Outcome {
+    pub answer: Answer,
+    pub due: Due,
+    pub eof: Eof,
+    pub length: usize,
+}
+
+fn refused_by(k: Refusal) -> Outcome
+    ensures { λ r. ⌜ r ≡ refusedBy k ⌝ }
+{
+    let eof = source_state::no_eof();
+    Outcome {
+        answer: Answer::Refused(k),
+        due: Due::Nothing,
+        eof: eof,
+        length: 0,
+    }
+}
+
+fn accepted_by(d: Due, e: Eof, n: usize) -> Outcome
+    ensures { λ r. ⌜ r ≡ acceptedBy d e n ⌝ }
+{
+    Outcome {
+        answer: Answer::Accepted,
+        due: d,
+        eof: e,
+        length: n,
+    }
+}
+
+// FileChanged: not Idle, and the lent length is not S.
+fn changed(s: State, lent: usize) -> bool
+    ensures { λ r. ⌜ r ≡ changed s lent ⌝ }
+{
+    let step = s.step;
+    if source_state::is_idle(step) {
+        return false;
+    }
+    if lent as u64 == s.fixed.size {
+        return false;
+    }
+    true
+}
+
+// The PDU due is emitted, or refused as OutTooSmall with nothing written.
+fn made(s: State, file: &[u8], d: Due, out: &mut [u8]) -> Outcome
+    requires { ⌜ Countable s d ⌝ }
+    ensures { λ r. ⌜ (steppedBy s r ≡ made s (now (file .entry)) d (length (now (out .entry)))) × Countable s (r .due) ⌝ }
+    ensures { λ r. ⌜ now (out .exit) ≡ inFront (bytesFor s (now (file .entry)) (sendingOf s (now (file .entry)) d)) (now (out .entry)) ⌝ }
+{
+    let p = source_sending::sending_of(s, file, d);
+    let w = source_emit::emit(s, file, p, out);
+    match w {
+        Written::Short => refused_by(Refusal::OutTooSmall),
+        Written::Wrote(n) => accepted_by(d, source_after::eof_in(p), n),
+    }
+}
+
+pub fn outcome_of(s: State, file: &[u8], expired: bool, out: &mut [u8]) -> Outcome
+    ensures { λ r. ⌜ (steppedBy s r ≡ stepSpec s (now (file .entry)) expired (length (now (out .entry)))) × Countable s (r .due) ⌝ }
+    ensures { λ r. ⌜ now (out .exit) ≡ stepBytes s (now (file .entry)) expired (now (out .entry)) ⌝ }
+{
+    if changed(s, file.len()) {
+        return refused_by(Refusal::FileChanged);
+    }
+    made(s, file, source_due::due_of(s, expired), out)
+}
+
+fn refused_step(s: State, k: Refusal) -> Stepped
+    ensures { λ r. ⌜ r ≡ refusedStep s k ⌝ }
+{
+    let events = source_events::quiet(s);
+    Stepped {
+        answer: Answer::Refused(k),
+        length: 0,
+        events: events,
+        state: s,
+    }
+}
+
+// The state and the events after it.
+pub(crate) fn stepped_by(s: State, o: Outcome) -> Stepped
+    requires { ⌜ Countable s (o .due) ⌝ }
+    ensures { λ r. ⌜ r ≡ steppedBy s o ⌝ }
+{
+    let d = o.due;
+    let a = o.answer;
+    match a {
+        Answer::Accepted => {
+            let events = source_events::events_of(s, d);
+            let t = source_after::after_of(s, o.eof, d);
+            Stepped {
+                answer: Answer::Accepted,
+                length: o.length,
+                events: events,
+                state: t,
+            }
+        }
+        Answer::Refused(k) => refused_step(s, k),
+    }
+}
