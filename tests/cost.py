@@ -1,5 +1,5 @@
 #!/usr/bin/env python3
-"""What a call costs through the seam (docs/SEAM.md): x86-64 instructions counted exactly, bytes of state, deepest stack; and the same data step through source.rs.
+"""What a call costs through the seam (docs/SEAM.md): x86-64 instructions counted exactly, bytes of state, deepest stack; a whole pass; and the same data step and pass through source.rs.
 
     python3 tests/cost.py
 
@@ -42,8 +42,11 @@ def comma(n):
     return format(n, ',')
 
 
+PASS = 1024 * 1024
+
+
 def seam():
-    """Prints the calls' costs; gives those of the two data steps."""
+    """Prints the calls' costs; gives those of the two data steps and of the two passes."""
     program = hosts.linked('cost', [hosts.c_object(os.path.join(HERE, 'seam', 'cost.c'), 'cost'), hosts.archive()])
 
     def cost(case):
@@ -55,7 +58,8 @@ def seam():
     shown('step, data PDU of 4,096 bytes, CRC', comma(data_crc))
     for name, case in (('step, data PDU with 100 bytes of file', 'data_100'), ('step, data PDU with 1 byte of file', 'data_1'), ('step, repair of 4,096 bytes', 'repair'),
                        ('step, metadata', 'metadata'), ('step, refused (30)', 'refused'), ('deliver, NAK of 64 requests', 'nak_64'),
-                       ('deliver, NAK of 1 request', 'nak_1'), ('put, names of one byte', 'put'), ('cancel', 'cancel'), ('reset', 'reset')):
+                       ('deliver, NAK of 1 request', 'nak_1'), ('deliver, ACK of EOF', 'ack'), ('deliver, Finished', 'finished'), ('deliver, Keep Alive', 'keep_alive'),
+                       ('deliver, refused (22)', 'ack_refused'), ('put, names of one byte', 'put'), ('cancel', 'cancel'), ('reset', 'reset')):
         shown(name, comma(cost(case)))
     null = cost('eof_null')
     shown('step, EOF with the null checksum', comma(null))
@@ -72,11 +76,14 @@ def seam():
         deepest[call] = max(int(depth), deepest.get(call, 0))
     for call, depth in deepest.items():
         shown('deepest stack: ' + call, comma(depth))
-    return data, data_crc
+    passes = cost('pass'), cost('pass_crc')
+    for name, n in zip(('no CRC', 'CRC'), passes):
+        shown('a pass of 1 MiB in PDUs of 4,096 bytes, put to EOF, ' + name, comma(n))
+    return (data, data_crc), passes
 
 
-def source_rs(data, data_crc):
-    """The same data step through source.rs over the stand-ins."""
+def source_rs(steps, passes):
+    """The same data step and the same pass through source.rs over the stand-ins."""
     rust, why = hosts.rust()
     if not rust or not shutil.which('cargo'):
         print('SKIPPED: the step through source.rs: ' + (why or 'no cargo here'))
@@ -85,9 +92,11 @@ def source_rs(data, data_crc):
     hosts.run(['cargo', 'build', '--offline', '--release', '--quiet', '-j1', '-p', 'cost', '--target', hosts.TRIPLE], cwd=os.path.join(HERE, 'cfdp-rs'),
               env=dict(rust.env, RUSTC=rust.words[0], CARGO_TARGET_DIR=target))
     program = hosts.linked('cost_rs', [os.path.join(target, hosts.TRIPLE, 'release', 'libcost.a')])
-    for name, crc, ours in (('no CRC', '0', data), ('CRC', '1', data_crc)):
+    for name, crc, step, whole in zip(('no CRC', 'CRC'), '01', steps, passes):
         theirs = instructions(program, '4', crc) - instructions(program, '3', crc)
-        shown('source.rs over stand-ins, the same data PDU, ' + name, '%s; ours is %.2f times that' % (comma(theirs), ours / theirs))
+        shown('source.rs over stand-ins, the same data PDU, ' + name, '%s; ours is %.2f times that' % (comma(theirs), step / theirs))
+        theirs = instructions(program, '1000', crc, str(PASS)) - instructions(program, '0', crc, str(PASS))
+        shown('source.rs over stand-ins, the same pass, ' + name, '%s; ours is %.2f times that' % (comma(theirs), whole / theirs))
 
 
 if __name__ == '__main__':

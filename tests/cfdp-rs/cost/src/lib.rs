@@ -1,10 +1,11 @@
 //! The handler of source.rs (unchanged, over the stand-ins) making N calls of its state machine over a file in memory, for tests/cost.py to count instructions:
 //! `cost N CRC`. As tests/seam/cost.c: file of 64,000 bytes, packet maximum 4,096, ids and number of one byte, acknowledged, null checksum. The first call sends
-//! the metadata and the first data PDU, each further one a data PDU. The file store copies from memory, the sender drops the PDU: no system call is counted or left out.
+//! the metadata and the first data PDU, each further one a data PDU. `cost N CRC SIZE` makes a whole pass over a file of SIZE bytes, unacknowledged, without closure,
+//! in at most N calls; with N = 0 it makes no put. The file store copies from memory, the sender drops the PDU: no system call is counted or left out.
 //!
 //! An archive with C's `main`, because an ordinary one makes std read /proc/self/maps, which the kit's emulator does not bear.
 use cfdp::{
-    FaultInfo, GenericSendError, IndicationConfig, LocalEntityConfig, PduSender, RemoteConfigList, RemoteEntityConfig, TimerContext,
+    FaultInfo, GenericSendError, IndicationConfig, LocalEntityConfig, PduSender, RemoteConfigList, RemoteEntityConfig, State, TimerContext,
     TimerCreator, TransactionId, UserFaultHook,
     filestore::{FilestoreError, VirtualFilestore},
     request::ReadablePutRequest,
@@ -132,6 +133,8 @@ impl ReadablePutRequest for Put {
 #[unsafe(no_mangle)]
 pub extern "C" fn main(_: i32, _: *const *const u8) -> i32 {
     let words: Vec<usize> = std::env::args().skip(1).map(|w| w.parse().unwrap()).collect();
+    let whole = words.get(2).copied();
+    let mode = if whole.is_some() { TransmissionMode::Unacknowledged } else { TransmissionMode::Acknowledged };
     let events = IndicationConfig { eof_sent: true, transaction_finished: true, ..Default::default() };
     let cfg = LocalEntityConfig::new(UnsignedByteField::new(1, 1), events, Hook);
     let mut table = RemoteConfigList::default();
@@ -140,16 +143,25 @@ pub extern "C" fn main(_: i32, _: *const *const u8) -> i32 {
         4096,
         false,
         words[1] != 0,
-        TransmissionMode::Acknowledged,
+        mode,
         ChecksumType::try_from(15).unwrap(),
     );
     table.0.push(remote);
-    let file = (0..SIZE).map(|k| (k * 7) as u8).collect();
+    let file = (0..whole.unwrap_or(SIZE)).map(|k| (k * 7) as u8).collect();
     let mut h = SourceHandler::new(cfg, Sender, Store(file), table, Timers, CounterU8::starting_at(7));
+    if words[0] == 0 {
+        return 0;
+    }
     h.put_request(&Put).unwrap();
-    for _ in 0..words[0] {
+    let mut calls = 0;
+    while calls < words[0] && (whole.is_none() || h.state() == State::Busy) {
         h.state_machine_no_packet(&mut User).unwrap();
+        calls += 1;
+    }
+    if let Some(size) = whole {
+        // metadata, data, EOF
+        return (h.state() == State::Busy || SENT.get().0 != size.div_ceil(4085 - 2 * words[1]) + 2) as i32;
     }
     // each call but the first sends one PDU of the whole maximum
-    (words[0] > 0 && SENT.get() != (words[0] + 1, 4096)) as i32
+    (SENT.get() != (words[0] + 1, 4096)) as i32
 }
