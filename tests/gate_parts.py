@@ -9,7 +9,7 @@ sum. `rt` waits for all that it started before it starts more, so fewer run at t
 import re, sys
 
 PARTS = [
-    ('leaves: basis, fields, rules_leaves, utf8, checksum', r'basis|fields|rules_leaves|utf8|checksum'),
+    ('leaves: basis, rules_leaves, utf8, checksum', r'basis|rules_leaves|utf8|checksum'),
     ('numbers and PDUs: rules_pdu, the pdu crates, vectors', r'rules_pdu|pdu\w*|vectors'),
     ('the handler\'s definitions and promises: types, rules', r'types|rules'),
     ('the handler: the source crates', r'source\w*'),

@@ -1,6 +1,6 @@
 // Runs a list of calls from standard input and writes the answers to standard output: four bytes of the file's length, the file, then the list
 // as docs/HOST.md has it. Input of more than 65,536 bytes is cut there.
-use pdu_read_header::field::part_of;
+use pdu_read::field::part_of;
 
 fn main() {
     let mut input = io::large_buffer();
@@ -11,7 +11,7 @@ fn main() {
 }
 
 fn driven(input: &[u8], answers: &mut [u8]) -> usize {
-    let n = (fields::num_at(input, 0, 4) % 4294967296) as usize;
+    let n = (basis::fields::num_at(input, 0, 4) % 4294967296) as usize;
     let file = part_of(input, 4, n);
     let calls = part_of(input, 4 + n, input.len());
     host::tsendrivaty_run(calls, file, answers) as usize

@@ -1,5 +1,5 @@
 // The list of calls taken apart. Past its end everything is zero: `run` tests first that a record is whole.
-use pdu_read_header::field::byte_at;
+use pdu_read::field::byte_at;
 use types::Choice;
 use types::EntityId;
 use types::LocalEntityConfig;
@@ -28,7 +28,7 @@ pub fn whole(s: &[u8], at: usize, n: usize) -> bool {
 
 // A length in w bytes.
 pub fn length(s: &[u8], at: usize, w: usize) -> usize {
-    (fields::num_at(s, at, w) % 4294967296) as usize
+    (basis::fields::num_at(s, at, w) % 4294967296) as usize
 }
 
 fn bit(b: u8, divisor: u8) -> bool {
@@ -40,11 +40,11 @@ fn bit(b: u8, divisor: u8) -> bool {
 
 // An id or a number: width, then eight bytes of value.
 pub fn entity(s: &[u8], at: usize) -> EntityId {
-    EntityId(byte_at(s, at), fields::num_at(s, on(at, 1), 8))
+    EntityId(byte_at(s, at), basis::fields::num_at(s, on(at, 1), 8))
 }
 
 pub fn number(s: &[u8], at: usize) -> TransactionSeqNum {
-    TransactionSeqNum(byte_at(s, at), fields::num_at(s, on(at, 1), 8))
+    TransactionSeqNum(byte_at(s, at), basis::fields::num_at(s, on(at, 1), 8))
 }
 
 // 28 bytes.
@@ -52,8 +52,8 @@ fn entry(s: &[u8], at: usize) -> RemoteEntityConfig {
     let flags = byte_at(s, on(at, 26));
     RemoteEntityConfig {
         id: entity(s, at),
-        maxpacket: fields::num_at(s, on(at, 9), 8),
-        maxsegment: fields::num_at(s, on(at, 17), 8),
+        maxpacket: basis::fields::num_at(s, on(at, 9), 8),
+        maxsegment: basis::fields::num_at(s, on(at, 17), 8),
         checksum: byte_at(s, on(at, 25)),
         crc: bit(flags, 1),
         unacknowledged: bit(flags, 2),

@@ -1,8 +1,8 @@
 // One call after another on a state that goes by value.
 use crate::read;
 use crate::write;
-use pdu_read_header::field::byte_at;
-use pdu_read_header::field::part_of;
+use pdu_read::field::byte_at;
+use pdu_read::field::part_of;
 use types::State;
 use types::Stepped;
 
@@ -43,12 +43,17 @@ fn put_call(s: State, calls: &[u8], at: usize, answers: &mut [u8], put: usize) -
     let to = part_of(calls, read::on(second, 2), m);
     let c = read::config(calls, at);
     let q = read::request(calls, read::on(at, 251));
-    let size = fields::num_at(calls, read::on(at, 262), 8);
+    let size = basis::fields::num_at(calls, read::on(at, 262), 8);
     let d = source::put(s, c, q, from, to, size);
     let a = d.answer;
     let t = d.state;
     let p = write::add(answers, put, 1, 1);
-    let p2 = write::add(answers, p, 1, fields::wide(source_answers::answer_no(a)));
+    let p2 = write::add(
+        answers,
+        p,
+        1,
+        basis::fields::wide(source::answers::answer_no(a)),
+    );
     stopped(t, end, p2, 0)
 }
 
@@ -66,7 +71,12 @@ fn deliver_call(s: State, calls: &[u8], at: usize, answers: &mut [u8], put: usiz
     let a = d.answer;
     let t = d.state;
     let p = write::add(answers, put, 1, 2);
-    let p2 = write::add(answers, p, 1, fields::wide(source_answers::answer_no(a)));
+    let p2 = write::add(
+        answers,
+        p,
+        1,
+        basis::fields::wide(source::answers::answer_no(a)),
+    );
     stopped(t, read::on(from, n), p2, 0)
 }
 
@@ -96,7 +106,7 @@ fn step_call(
 
 // A step whose out buffer is the first `asked` bytes of the space, or all of it.
 fn step_in(s: State, lent: &[u8], expired: bool, asked: usize, space: &mut [u8]) -> Stepped {
-    let room = fields::lesser(asked, space.len());
+    let room = basis::fields::lesser(asked, space.len());
     source::step(s, lent, expired, &mut space[..room])
 }
 
@@ -104,7 +114,12 @@ fn add_step(answers: &mut [u8], put: usize, d: Stepped, space: &[u8]) -> usize {
     let a = d.answer;
     let n = d.length;
     let p = write::add(answers, put, 1, 3);
-    let p2 = write::add(answers, p, 1, fields::wide(source_answers::answer_no(a)));
+    let p2 = write::add(
+        answers,
+        p,
+        1,
+        basis::fields::wide(source::answers::answer_no(a)),
+    );
     let p3 = write::add(answers, p2, 2, n as u64);
     write::add_bytes(answers, p3, part_of(space, 0, n))
 }
@@ -122,7 +137,12 @@ fn cancel_call(s: State, calls: &[u8], at: usize, answers: &mut [u8], put: usize
     let yes = d.yes;
     let t = d.state;
     let p = write::add(answers, put, 1, 4);
-    let p2 = write::add(answers, p, 1, fields::wide(fields::bit_of(yes)));
+    let p2 = write::add(
+        answers,
+        p,
+        1,
+        basis::fields::wide(basis::fields::bit_of(yes)),
+    );
     stopped(t, read::on(at, 18), p2, 0)
 }
 
@@ -172,5 +192,5 @@ pub fn run(calls: &[u8], file: &[u8], answers: &mut [u8]) -> u64 {
         status = t.status;
     }
     let p = write::add(answers, put, 1, 255);
-    write::add(answers, p, 1, fields::wide(status)) as u64
+    write::add(answers, p, 1, basis::fields::wide(status)) as u64
 }

@@ -14,7 +14,7 @@ pub fn add(out: &mut [u8], at: usize, w: usize, v: u64) -> usize {
     if out.len() - at < w {
         return at;
     }
-    fields::put_be(out, at, w, v)
+    basis::fields::put_be(out, at, w, v)
 }
 
 pub fn add_bytes(out: &mut [u8], at: usize, s: &[u8]) -> usize {
@@ -24,7 +24,7 @@ pub fn add_bytes(out: &mut [u8], at: usize, s: &[u8]) -> usize {
     if out.len() - at < s.len() {
         return at;
     }
-    fields::put_bytes(out, at, s)
+    basis::fields::put_bytes(out, at, s)
 }
 
 fn flag(b: bool, v: u64) -> u64
@@ -73,8 +73,8 @@ fn add_fault(out: &mut [u8], at: usize, f: FaultEvent) -> usize {
             condition,
             progress,
         } => {
-            let p = add(out, at, 1, fields::wide(action));
-            let q = add(out, p, 1, fields::wide(condition));
+            let p = add(out, at, 1, basis::fields::wide(action));
+            let q = add(out, p, 1, basis::fields::wide(condition));
             add(out, q, 8, progress)
         }
     }
@@ -84,9 +84,9 @@ fn add_finished(out: &mut [u8], at: usize, f: FinishedEvent) -> usize {
     match f {
         FinishedEvent::NotFinished => at,
         FinishedEvent::Finished(v) => {
-            let p = add(out, at, 1, fields::wide(v.condition));
-            let q = add(out, p, 1, fields::wide(v.delivery));
-            add(out, q, 1, fields::wide(v.status))
+            let p = add(out, at, 1, basis::fields::wide(v.condition));
+            let q = add(out, p, 1, basis::fields::wide(v.delivery));
+            add(out, q, 1, basis::fields::wide(v.status))
         }
     }
 }
@@ -111,8 +111,8 @@ pub fn add_events(out: &mut [u8], at: usize, e: Events) -> usize {
 fn add_id(out: &mut [u8], at: usize, id: TransactionId) -> usize {
     let source = id.0;
     let number = id.1;
-    let p = add(out, at, 1, fields::wide(source.0));
+    let p = add(out, at, 1, basis::fields::wide(source.0));
     let q = add(out, p, 8, source.1);
-    let r = add(out, q, 1, fields::wide(number.0));
+    let r = add(out, q, 1, basis::fields::wide(number.0));
     add(out, r, 8, number.1)
 }

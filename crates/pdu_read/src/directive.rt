@@ -1,10 +1,10 @@
 // A body in its frame: which reader its directive code picks, and what the frame refuses.
+use crate::ack::ack_in;
+use crate::field::part_of;
 use crate::field::up_to;
-use pdu_read_bodies::ack::ack_in;
-use pdu_read_bodies::finished::finished_in;
-use pdu_read_bodies::keep_alive::keep_alive_in;
-use pdu_read_header::field::part_of;
-use pdu_read_nak::nak_in;
+use crate::finished::finished_in;
+use crate::keep_alive::keep_alive_in;
+use crate::nak::nak_in;
 use types::Body;
 use types::Frame;
 ghost use mathlib.Core.Path.{_≡_};

@@ -1,4 +1,9 @@
-// What a delivery's body says: which reader its directive code picks, and what its frame refuses. The header is read by `pdu_read_header`, the bodies by
-// `pdu_read_bodies` and `pdu_read_nak`. Every function takes any bytes at all; a body that document 01's layouts don't know is answered by Malformed.
+// A delivery read: its header, then the body that its directive code picks, one module for each.
+mod ack;
+mod condition;
 pub mod directive;
 pub mod field;
+mod finished;
+pub mod header;
+mod keep_alive;
+pub mod nak;

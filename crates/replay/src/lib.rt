@@ -3,7 +3,7 @@
 mod say;
 mod take;
 
-use pdu_read_header::field::part_of;
+use pdu_read::field::part_of;
 
 // How an event tells the source id and number: with their widths, or as the Rust does.
 pub enum Ids {

@@ -2,25 +2,25 @@
 use crate::Ids;
 use crate::take::length;
 use crate::take::on;
-use pdu_read_header::field::byte_at;
-use pdu_read_header::field::part_of;
+use pdu_read::field::byte_at;
+use pdu_read::field::part_of;
 
 fn number(s: &[u8], at: usize, w: usize) {
     io::write_all(1, b" ");
-    io::print_decimal(1, fields::num_at(s, at, w));
+    io::print_decimal(1, basis::fields::num_at(s, at, w));
 }
 
 // An id or a number: width, colon, value.
 fn tagged(s: &[u8], at: usize) {
     number(s, at, 1);
     io::write_all(1, b":");
-    io::print_decimal(1, fields::num_at(s, on(at, 1), 8));
+    io::print_decimal(1, basis::fields::num_at(s, on(at, 1), 8));
 }
 
 fn hex(s: &[u8]) {
     let mut i = 0;
     while i < s.len() {
-        io::print_hex(1, fields::wide(s[i]), 2);
+        io::print_hex(1, basis::fields::wide(s[i]), 2);
         i += 1;
     }
 }

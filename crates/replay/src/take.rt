@@ -1,6 +1,6 @@
 // Taking things from a stream of bytes. Past the end everything is zero.
-use pdu_read_header::field::byte_at;
-use pdu_read_header::field::part_of;
+use pdu_read::field::byte_at;
+use pdu_read::field::part_of;
 
 // A place n bytes further; a stream is shorter than a million bytes.
 pub fn on(at: usize, n: usize) -> usize {
@@ -23,7 +23,7 @@ pub fn past(s: &[u8], at: usize, w: usize) -> usize {
 }
 
 pub fn length(s: &[u8], at: usize, w: usize) -> usize {
-    (fields::num_at(s, at, w) % 4294967296) as usize
+    (basis::fields::num_at(s, at, w) % 4294967296) as usize
 }
 
 // The next byte of a coded list: behind a zero the count of zeros that it stands for, else itself. Answers the place behind what it stands for.

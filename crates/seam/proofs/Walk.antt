@@ -20,15 +20,15 @@ use denote.RattleType.{RattleType}
 use denote.Laws.{Is, Tells, Makes}
 use denote.Steps.{only}
 use denote.Struct.Laws as LL
-use Rattle.seam_memory.specs.declared.Handler.{Handler}
+use Rattle.seam_rules.specs.declared.memory.Handler.{Handler}
 use Rattle.seam_rules.specs.declared.Done.{Done}
-use Rattle.seam_calls.specs.declared.light.Light.{Light}
-use Rattle.seam_memory.proofs.Handler as H
-use Rattle.seam_memory.proofs.Handler.Laws as H′
+use Rattle.seam.specs.declared.light.Light.{Light}
+use Rattle.seam_rules.proofs.memory.Handler as H
+use Rattle.seam_rules.proofs.memory.Handler.Laws as H′
 use Rattle.seam_rules.proofs.Done as D
 use Rattle.seam_rules.proofs.Done.Laws as D′
-use Rattle.seam_calls.proofs.light.Light as L
-use Rattle.seam_calls.proofs.light.Light.Laws as L′
+use Rattle.seam.proofs.light.Light as L
+use Rattle.seam.proofs.light.Light.Laws as L′
 
 -- ---- a handler: its type and what it owns in memory
 

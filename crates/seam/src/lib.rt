@@ -1,17 +1,26 @@
-// The sending handler for C: one handler in memory that the host lends. Each function copies the memory out, makes the call on values (crate `seam_calls`), and
-// stores what comes of it; a refusal stores what was there. Every bit pattern of the memory is a handler, so nothing is asked of the host but the pointers.
+// The sending handler for C: one handler in memory that the host lends. Each function copies the memory out, makes the call on values, and
+// stores what comes of it; a refusal stores what was there. A step and a delivery go in two parts, so that no more is stored than what they change (modules
+// `step`, `deliver`); the other calls are in module `calls`, what lies between memory and values in `taken`, `stored` and `events`. Every bit pattern of the memory is a handler, so nothing is asked of the host but the pointers.
+mod calls;
+mod deliver;
+mod events;
+mod light;
+mod step;
+mod stored;
+mod taken;
+
 ghost use mathlib.Core.Path.{_≡_};
 ghost use Rattle.seam_rules.specs.Seam.{newDone, putDone, deliverDone, stepDone, stepOut, cancelDone, resetDone};
-use seam_calls::cancel_done;
-use seam_calls::deliver::deliver_heard;
-use seam_calls::deliver::queue_held;
-use seam_calls::light::light_held;
-use seam_calls::new_done;
-use seam_calls::put_done;
-use seam_calls::reset_done;
-use seam_calls::step::bulk_held;
-use seam_calls::step::step_told;
-use seam_memory::Handler;
+use crate::calls::cancel_done;
+use crate::calls::new_done;
+use crate::calls::put_done;
+use crate::calls::reset_done;
+use crate::deliver::deliver_heard;
+use crate::deliver::queue_held;
+use crate::light::light_held;
+use crate::step::bulk_held;
+use crate::step::step_told;
+use seam_rules::memory::Handler;
 
 // A handler whose first put takes this number of `width` bytes; the configuration stays. Returns 0.
 #[no_mangle]

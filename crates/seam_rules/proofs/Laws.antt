@@ -16,13 +16,13 @@ use Rattle.types.specs.declared.Refusal.the-variants.{AlreadyBusy, BadIdWidth, 
 use Rattle.types.specs.declared.Answer.{Answer}
 use Rattle.types.specs.declared.Answer.the-variants.{Accepted, Refused}
 use Rattle.rules.proofs.Exactly.{refusal-changes-nothing}
-use Rattle.seam_memory.specs.Memory.{flagOf, stateOf, configOf, heldOf, reportOf, noReport, requestOf}
+use Rattle.seam_rules.specs.Memory.{flagOf, stateOf, configOf, heldOf, reportOf, noReport, requestOf}
 use Rattle.seam_rules.specs.Seam.{byAnswer, byWord, newDone, putDone, deliverDone, stepDone, stepOut, cancelDone, resetDone}
 use Rattle.seam_rules.specs.Follows.{MemoryFollows, MemoryUntouched, ReportTold, ConfigStays}
-use Rattle.seam_memory.specs.declared.Report.{Report}
-use Rattle.seam_memory.specs.declared.Handler.{Handler}
+use Rattle.seam_rules.specs.declared.memory.Report.{Report}
+use Rattle.seam_rules.specs.declared.memory.Handler.{Handler}
 use Rattle.seam_rules.specs.declared.Done.{Done}
-use Rattle.seam_memory.proofs.Round.{state-kept}
+use Rattle.seam_rules.proofs.Round.{state-kept}
 
 -- ---- by an answer
 

@@ -10,9 +10,9 @@ use Rattle.rules.specs.Put.{putSpec}
 use Rattle.rules.specs.Deliver.{deliverSpec}
 use Rattle.rules.specs.Step.{stepSpec, stepBytes}
 use Rattle.rules.specs.Cancel.{cancelSpec, resetSpec, newSpec}
-use Rattle.seam_memory.specs.Memory.{flagOf, configOf, stateOf, reportOf, noReport, requestOf}
+use Rattle.seam_rules.specs.Memory.{flagOf, configOf, stateOf, reportOf, noReport, requestOf}
 use Rattle.seam_rules.specs.Seam.{newDone, putDone, deliverDone, stepDone, stepOut, cancelDone, resetDone}
-use Rattle.seam_memory.specs.declared.Handler.{Handler}
+use Rattle.seam_rules.specs.declared.memory.Handler.{Handler}
 
 -- ---- each call on the memory is the call on the state in it
 

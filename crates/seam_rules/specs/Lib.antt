@@ -1,2 +1,4 @@
+pub mod Memory
+pub mod Kept
 pub mod Seam
 pub mod Follows

@@ -10,13 +10,13 @@ use Rattle.rules.specs.Put.{putSpec}
 use Rattle.rules.specs.Deliver.{deliverSpec}
 use Rattle.rules.specs.Step.{stepSpec, stepBytes}
 use Rattle.rules.specs.Cancel.{cancelSpec, resetSpec, newSpec}
-use Rattle.seam_memory.specs.Memory.{flagOf, configOf, stateOf, heldOf, reportOf, noReport, requestOf}
+use Rattle.seam_rules.specs.Memory.{flagOf, configOf, stateOf, heldOf, reportOf, noReport, requestOf}
 use Rattle.types.specs.declared.State.{State}
 use Rattle.types.specs.declared.Answer.{Answer}
 use Rattle.types.specs.declared.Answer.the-variants.{Accepted, Refused}
 use Rattle.types.specs.declared.Cancelled.{Cancelled}
-use Rattle.seam_memory.specs.declared.Report.{Report}
-use Rattle.seam_memory.specs.declared.Handler.{Handler}
+use Rattle.seam_rules.specs.declared.memory.Report.{Report}
+use Rattle.seam_rules.specs.declared.memory.Handler.{Handler}
 use Rattle.seam_rules.specs.declared.Done.{Done}
 
 -- ---- the code that is returned, and the memory after the call; the configuration stays

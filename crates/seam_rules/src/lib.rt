@@ -1,6 +1,9 @@
 // What is right of the handler in memory that a host lends: what each of the six calls returns and leaves there (specs/Seam.antt), and what follows from it
-// (specs/Follows.antt). The calls are crate `seam_calls`, the C functions crate `seam`. No code runs here.
-use seam_memory::Handler;
+// (specs/Follows.antt). What the memory means: specs/Memory.antt; that nothing is lost in it: specs/Kept.antt. The
+// code is crate `seam`. No code runs here.
+pub mod memory;
+
+use crate::memory::Handler;
 
 // What a call returns and what is stored.
 pub struct Done {

@@ -1,17 +1,19 @@
 // From the words to the summary: each function does one thing more and hands on to the next, so that nothing is written before all is well.
 use crate::files;
 use crate::files::Loaded;
+use crate::frames;
+use crate::put;
 use crate::run;
 use crate::run::Output;
 use crate::run::Pass;
 use libc::STDOUT_FILENO;
-use pdu_read_header::field::part_of;
-use send_say::tell;
-use send_words::Taken;
-use send_words::Words;
-use send_words::defaults;
-use send_words::list::is;
-use send_words::with_word;
+use pdu_read::field::part_of;
+use send_text::list::is;
+use send_text::tell;
+use send_text::words::Taken;
+use send_text::words::Words;
+use send_text::words::defaults;
+use send_text::words::with_word;
 use types::Answer;
 use types::Done;
 use types::State;
@@ -106,7 +108,7 @@ fn with_file(w: Words, file: &[u8]) {
 }
 
 fn with_answers(w: Words, file: &[u8], answers: &[u8]) {
-    let f = run::frames_in(answers);
+    let f = frames::frames_in(answers);
     if !f.whole {
         tell::line(b"send: the last answer is cut short; nothing was sent\n");
         return;
@@ -143,9 +145,9 @@ fn dest_of(w: Words) -> Value {
 
 fn asked(w: Words, source: &[u8], destination: &[u8], size: u64) -> Done {
     source::put(
-        run::first(w),
-        run::config(w),
-        run::request(w),
+        put::first(w),
+        put::config(w),
+        put::request(w),
         source,
         destination,
         size,

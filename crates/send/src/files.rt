@@ -1,6 +1,6 @@
 // Arguments and the files that they name.
-use pdu_read_header::field::part_of;
-use send_say::tell;
+use pdu_read::field::part_of;
+use send_text::tell;
 
 pub enum Loaded {
     Bytes(usize),

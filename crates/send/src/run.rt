@@ -1,31 +1,26 @@
 // One pass: put, then step after step until the handler is idle or waits for an answer that nobody gives. An answer is delivered after each
 // step that emits nothing; with a limit, and no answer left, such a step is made again with the timer expired.
-ghost use Prim.Native.Nat.{_<_};
-use pdu_read_header::field::part_of;
-use send_say::pdu::Sum;
-use send_say::pdu::plus;
-use send_say::pdu::received;
-use send_say::pdu::sent;
-use send_say::pdu::sum_of;
-use send_say::tell;
-use send_say::tell::Tally;
+use crate::frames::frame_length;
+use crate::frames::next_frame;
+use crate::frames::on;
+use pdu_read::field::part_of;
 use send_text::code::answer;
+use send_text::pdu::Sum;
+use send_text::pdu::plus;
+use send_text::pdu::received;
+use send_text::pdu::sent;
+use send_text::pdu::sum_of;
+use send_text::tell;
+use send_text::tell::Tally;
 use send_text::text::hex_bytes;
 use send_text::text::hex_line;
 use send_text::text::text;
-use send_words::Words;
 use source_state::is_idle;
 use types::Answer;
-use types::Choice;
-use types::EntityId;
 use types::Events;
-use types::LocalEntityConfig;
-use types::PutRequest;
 use types::Refusal;
-use types::RemoteEntityConfig;
 use types::State;
 use types::Stepped;
-use types::TransactionSeqNum;
 
 // Where PDUs go and in which form (0 framed, 1 hex, 2 hex with its meaning), and whether the timer expires.
 pub struct Output {
@@ -42,98 +37,6 @@ pub struct Pass {
     pub expired: bool,
     pub going: bool,
     pub tally: Tally,
-}
-
-// ---- put
-
-// A number that is no byte becomes 0, which is no width.
-fn small(n: u64) -> u8 {
-    if n > 255 {
-        return 0;
-    }
-    n as u8
-}
-
-// One remote entity, and every fault cancels.
-pub fn config(w: Words) -> LocalEntityConfig {
-    let width = small(w.idwidth);
-    let e = RemoteEntityConfig {
-        id: EntityId(width, w.to),
-        maxpacket: w.packet,
-        maxsegment: w.segment,
-        checksum: w.checksum,
-        crc: w.crc,
-        unacknowledged: w.unacknowledged,
-        closure: w.closure,
-        limit: small(w.limit),
-    };
-    let a = [1u8; 16];
-    let r = [e; 8];
-    LocalEntityConfig {
-        id: EntityId(width, w.from),
-        actions: a,
-        eofsent: true,
-        finished: true,
-        remotes: r,
-        count: 1,
-    }
-}
-
-pub fn request(w: Words) -> PutRequest {
-    PutRequest {
-        destination: EntityId(small(w.idwidth), w.to),
-        unacknowledged: Choice::Default,
-        closure: Choice::Default,
-    }
-}
-
-pub fn first(w: Words) -> State {
-    source::new(TransactionSeqNum(small(w.seqwidth), w.number))
-}
-
-// ---- frames: two bytes of length, highest first, before each PDU
-
-fn frame_length(s: &[u8], at: usize) -> usize
-    ensures { λ r. ⌜ r < 65536 ⌝ }
-{
-    (fields::num_at(s, at, 2) % 65536) as usize
-}
-
-// A place n bytes further; the answers are shorter than a million bytes.
-fn on(at: usize, n: usize) -> usize {
-    if at > 1000000 {
-        return at;
-    }
-    if n > 1000000 {
-        return at;
-    }
-    at + n
-}
-
-fn next_frame(s: &[u8], at: usize) -> usize {
-    on(on(at, 2), frame_length(s, at))
-}
-
-// How many whole frames stand there, and whether nothing stands behind them.
-pub struct Frames {
-    pub count: u64,
-    pub whole: bool,
-}
-
-pub fn frames_in(s: &[u8]) -> Frames {
-    let mut at: usize = 0;
-    let mut count: u64 = 0;
-    while count < 65536 {
-        if at >= s.len() {
-            break;
-        }
-        at = next_frame(s, at);
-        count += 1;
-    }
-    Frames {
-        count: count,
-        whole: at == s.len(),
-    }
 }
 
 // ---- what leaves
@@ -173,7 +76,7 @@ fn counted(t: Tally, pdu: &[u8], repair: bool) -> Tally {
     let mut v = t;
     v.pdus = plus(t.pdus, 1);
     v.bytes = plus(t.bytes, pdu.len() as u64);
-    v.repairs = plus(t.repairs, fields::bit_of(repair) as u64);
+    v.repairs = plus(t.repairs, basis::fields::bit_of(repair) as u64);
     match sum_of(pdu) {
         Sum::NoEof => v,
         Sum::Of(sum) => {

@@ -2,7 +2,7 @@
 // that has it.
 use crate::text::listed;
 use crate::text::text;
-use fields::lesser;
+use basis::fields::lesser;
 use types::Answer;
 use types::FinishedParams;
 use types::Refusal;

@@ -1,4 +1,9 @@
-// Texts, numbers and codes, laid into a lent buffer from a place on. What does not fit is left out.
+// The words of the command line, and what the program `send` says.
 pub mod code;
-pub mod nak;
+mod decimal;
+pub mod list;
+mod nak;
+pub mod pdu;
+pub mod tell;
 pub mod text;
+pub mod words;

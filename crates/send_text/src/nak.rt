@@ -3,10 +3,10 @@ use crate::text::listed;
 use crate::text::numbers;
 use crate::text::on;
 use crate::text::text;
-use fields::lesser;
-use pdu_read_nak::pair_from;
-use source_nak::first_pair;
+use basis::fields::lesser;
+use pdu_read::nak::pair_from;
 use source_queue::is_metadata;
+use source_queue::nak::first_pair;
 use types::SegmentRequest;
 
 fn request(out: &mut [u8], at: usize, r: SegmentRequest) -> usize {

@@ -1,7 +1,7 @@
 // Texts, numbers and bytes as they are read.
+use crate::list::nth;
+use pdu_read::field::part_of;
 use pdu_read::field::up_to;
-use pdu_read_header::field::part_of;
-use send_words::list::nth;
 
 pub fn text(out: &mut [u8], at: usize, s: &[u8]) -> usize {
     if at > out.len() {
@@ -10,7 +10,7 @@ pub fn text(out: &mut [u8], at: usize, s: &[u8]) -> usize {
     if out.len() - at < s.len() {
         return at;
     }
-    fields::put_bytes(out, at, s)
+    basis::fields::put_bytes(out, at, s)
 }
 
 // Text number n of a list.
@@ -78,7 +78,7 @@ pub fn hex_bytes(out: &mut [u8], at: usize, s: &[u8]) -> usize {
     let mut p = at;
     let mut i = 0;
     while i < s.len() {
-        let b = fields::wide(s[i]);
+        let b = basis::fields::wide(s[i]);
         p = put(out, p, digit(b / 16));
         p = put(out, p, digit(b % 16));
         i += 1;

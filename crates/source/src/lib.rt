@@ -1,6 +1,11 @@
 // The sending handler: six calls over one state that goes in by value and comes back by value. Each takes any state value, any bytes and any
 // numbers, in any order, and returns; its contract is one relation of crate `rules` and nothing beside it, so what is proved of the relations holds of
-// these calls. The code stands in crates of its own, `source_` and a word; the calls here are those of source_put, source_deliver and source_step.
+// these calls. The code stands in source_put, source_deliver and source_step.
+// To read it: `(x : A) → P` "for every x of A, P", and `P → Q` "if P, then Q"; `(x : A) × P` "there is an x of A with P", and `P × Q` "P and Q"; `P ⊎ Q` "P or Q"; `¬ P` "not P"; `P ↔ Q` "P exactly
+// if Q"; `⊥` what never holds; `a ≡ b` "a equals b". `x .f` is the field f of x, `p .0` and `p .1` are the parts of a pair. `[]` is the empty list, `x ∷ l` one that begins with x, `l ++ m` both joined, `map f l` f of
+// each. In a contract `λ r.` names the result, `⌜ P ⌝` is the fact P, and `now (x .entry)` and `now (x .exit)` are the bytes behind x when the call begins and when it ends.
+pub mod answers;
+
 ghost use mathlib.Core.Path.{_≡_};
 ghost use Rattle.rules.specs.Calls.{PutMeets, DeliverMeets, StepMeets, CancelMeets, ResetMeets, NewMeets};
 use types::Cancelled;

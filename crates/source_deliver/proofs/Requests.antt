@@ -11,7 +11,7 @@ use Rattle.types.specs.declared.Frame.{Frame}
 use Rattle.types.specs.declared.State.{State}
 use Rattle.types.specs.declared.Meaning.{Meaning}
 use Rattle.types.specs.declared.Meaning.the-variants.{Finished, AckOfEof, Nak, KeepAlive}
-use Rattle.source_nak.proofs.Requests.{at-end}
+use Rattle.source_queue.proofs.Requests.{at-end}
 use Rattle.source_deliver.specs.Asked.{askedCount}
 use Rattle.source_deliver.specs.Effects.{doneBy, moveOf}
 

@@ -2,13 +2,14 @@
 // the order 20, 21, 23, 22, 24, 25, and a refused delivery changes nothing.
 pub mod effect;
 mod nak;
+mod table;
 
 use crate::effect::Effect;
 use crate::effect::done_by;
 use crate::nak::handle_nak_pdu;
+use crate::table::verdict_of;
 use pdu_read::directive::read_body;
-use pdu_read_header::read_header;
-use source_table::verdict_of;
+use pdu_read::header::read_header;
 use types::Body;
 use types::Done;
 use types::Frame;

@@ -1,8 +1,8 @@
 // A NAK is taken whole or refused whole. Its requests are read from the delivered bytes, once to judge them and once to take them; nothing is copied.
 use crate::effect::Effect;
-use source_nak::first_pair;
-use source_nak::judge;
 use source_queue::free;
+use source_queue::nak::first_pair;
+use source_queue::nak::judge;
 use types::Frame;
 use types::Refusal;
 use types::State;

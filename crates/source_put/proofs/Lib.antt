@@ -1,1 +1,4 @@
+pub mod Widths
+pub mod Scan
+pub mod Room
 pub mod Accepted

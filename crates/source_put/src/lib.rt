@@ -1,13 +1,17 @@
 // Put: refusals 1 to 8 in checking order, or the state anew. Any state, configuration and request is taken; a refusal changes nothing.
+mod config;
+mod names;
+mod numbers;
+mod start;
 
-use source_config::entry_of;
-use source_config::ids_fit;
-use source_config::is_found;
-use source_names::names_of;
-use source_start::entry_answer;
-use source_start::fixed_of;
-use source_start::head_of;
-use source_start::started;
+use crate::config::entry_of;
+use crate::config::ids_fit;
+use crate::config::is_found;
+use crate::names::names_of;
+use crate::start::entry_answer;
+use crate::start::fixed_of;
+use crate::start::head_of;
+use crate::start::started;
 use types::Answer;
 use types::Done;
 use types::LocalEntityConfig;
@@ -63,7 +67,7 @@ fn put_state(
     let h = head_of(c, e, q, s.number, size);
     let f = fixed_of(c, e, q, h, size);
     let names = names_of(source, destination);
-    started(s, f, names)
+    started(s.number, f, names)
 }
 
 // A put of a file of `size` bytes, of which no byte is read.

@@ -1,4 +1,6 @@
-// Pending requests: 64 places, the oldest in front. Served places are free again. What a NAK adds is in `source_nak`.
+// Pending requests: 64 places, the oldest in front. Served places are free again. What a NAK adds is in module `nak`.
+pub mod nak;
+
 use types::Queue;
 use types::SegmentRequest;
 ghost use mathlib.Core.Path.{_≡_};

@@ -13,7 +13,7 @@ use types::State;
 use types::TransactionSeqNum;
 use types::TransactionStep;
 ghost use mathlib.Core.Path.{_≡_};
-ghost use Rattle.rules.specs.States.{isIdle, toStep, withFile, withMarks, keeping, counted, idle, emptyQueue, noFixed, noNames, noEof};
+ghost use Rattle.rules.specs.States.{isIdle, toStep, withFile, withMarks, keeping, counted, idle, emptyQueue, noFixed, noNames, noEof, noFile, noMarks};
 ghost use Rattle.rules.specs.Step.{onward, awaiting, faultMarked};
 
 pub fn is_idle(step: TransactionStep) -> bool
@@ -165,31 +165,43 @@ pub fn no_eof() -> Eof
     }
 }
 
-// Every way to Idle keeps only the sequence number.
-pub fn idle(number: TransactionSeqNum) -> State
-    ensures { λ r. ⌜ r ≡ idle number ⌝ }
+pub fn no_file() -> FileParams
+    ensures { λ r. ⌜ r ≡ noFile ⌝ }
 {
-    let fixed = no_fixed();
-    let names = no_names();
     let eof = no_eof();
-    let file = FileParams {
+    FileParams {
         progress: 0,
         eof: eof,
-    };
-    let queue = empty_queue();
+    }
+}
+
+pub fn no_marks() -> Marks
+    ensures { λ r. ⌜ r ≡ noMarks ⌝ }
+{
     let finished = FinishedParams {
         condition: 0,
         delivery: 0,
         status: 0,
     };
-    let marks = Marks {
+    Marks {
         cancelled: false,
         owed: false,
         condition: 0,
         count: 0,
         finished: finished,
         anomalies: 0,
-    };
+    }
+}
+
+// Every way to Idle keeps only the sequence number.
+pub fn idle(number: TransactionSeqNum) -> State
+    ensures { λ r. ⌜ r ≡ idle number ⌝ }
+{
+    let fixed = no_fixed();
+    let names = no_names();
+    let file = no_file();
+    let queue = empty_queue();
+    let marks = no_marks();
     State {
         number: number,
         step: TransactionStep::Idle,

@@ -22,7 +22,7 @@ use Rattle.types.specs.declared.Written.the-variants.{Short, Wrote}
 use Rattle.types.specs.declared.Refusal.the-variants.{OutTooSmall}
 use Rattle.types.specs.declared.Answer.the-variants.{Accepted}
 use Rattle.source_step.proofs.Written.{on-short, on-wrote}
-use Rattle.source_after.specs.Once.{eofIn, afterWith, Countable}
+use Rattle.source_step.specs.Once.{eofIn, afterWith, Countable}
 use Rattle.source_step.specs.Outcomes.{refusedBy, acceptedBy, steppedBy}
 
 pub after-once : (s : State) (file : List ℕ) (d : Due) → afterWith s (eofIn (sendingOf s file d)) d ≡ afterOf s file d

@@ -3,7 +3,7 @@
 use Prim.Native.Nat.{ℕ}
 use Rattle.rules.specs.States.{noEof}
 use Rattle.rules.specs.Step.{eventsOf, refusedStep}
-use Rattle.source_after.specs.Once.{afterWith}
+use Rattle.source_step.specs.Once.{afterWith}
 use Rattle.types.specs.declared.State.{State}
 use Rattle.types.specs.declared.Due.{Due}
 use Rattle.types.specs.declared.Due.the-variants.{Nothing}

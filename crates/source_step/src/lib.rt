@@ -1,6 +1,9 @@
 // A step of the sender with its faults, the user's cancel, reset and a new handler: each call equal to its definition in `rules`.
 // A step decides what is due, then has its PDU written, and only then makes the new state, so that a refusal changes nothing.
+pub mod after;
+pub mod bulk;
 mod cancelling;
+pub mod events;
 pub mod outcome;
 
 use crate::outcome::outcome_of;

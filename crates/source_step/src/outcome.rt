@@ -11,7 +11,7 @@ ghost use mathlib.Core.Path.{_≡_};
 ghost use lib.ListN.{length};
 ghost use Rattle.basis.specs.Laid.{inFront};
 ghost use Rattle.rules.specs.Step.{changed, refusedStep, sendingOf, bytesFor, made, stepSpec, stepBytes};
-ghost use Rattle.source_after.specs.Once.{Countable};
+ghost use Rattle.source_step.specs.Once.{Countable};
 ghost use Rattle.source_step.specs.Outcomes.{refusedBy, acceptedBy, steppedBy};
 
 // Where it is accepted: what was due, the EOF that left, if one did, and how many bytes of the out buffer are the PDU.
@@ -65,11 +65,11 @@ fn made(s: State, file: &[u8], d: Due, out: &mut [u8]) -> Outcome
     ensures { λ r. ⌜ (steppedBy s r ≡ made s (now (file .entry)) d (length (now (out .entry)))) × Countable s (r .due) ⌝ }
     ensures { λ r. ⌜ now (out .exit) ≡ inFront (bytesFor s (now (file .entry)) (sendingOf s (now (file .entry)) d)) (now (out .entry)) ⌝ }
 {
-    let p = source_sending::sending_of(s, file, d);
-    let w = source_emit::emit(s, file, p, out);
+    let p = source_due::sending::sending_of(s, file, d);
+    let w = source_due::emit::emit(s, file, p, out);
     match w {
         Written::Short => refused_by(Refusal::OutTooSmall),
-        Written::Wrote(n) => accepted_by(d, source_after::eof_in(p), n),
+        Written::Wrote(n) => accepted_by(d, crate::after::eof_in(p), n),
     }
 }
 
@@ -80,13 +80,13 @@ pub fn outcome_of(s: State, file: &[u8], expired: bool, out: &mut [u8]) -> Outco
     if changed(s, file.len()) {
         return refused_by(Refusal::FileChanged);
     }
-    made(s, file, source_due::due_of(s, expired), out)
+    made(s, file, source_due::due::due_of(s, expired), out)
 }
 
 fn refused_step(s: State, k: Refusal) -> Stepped
     ensures { λ r. ⌜ r ≡ refusedStep s k ⌝ }
 {
-    let events = source_events::quiet(s);
+    let events = crate::events::quiet(s);
     Stepped {
         answer: Answer::Refused(k),
         length: 0,
@@ -104,8 +104,8 @@ pub(crate) fn stepped_by(s: State, o: Outcome) -> Stepped
     let a = o.answer;
     match a {
         Answer::Accepted => {
-            let events = source_events::events_of(s, d);
-            let t = source_after::after_of(s, o.eof, d);
+            let events = crate::events::events_of(s, d);
+            let t = crate::after::after_of(s, o.eof, d);
             Stepped {
                 answer: Answer::Accepted,
                 length: o.length,

@@ -6,7 +6,7 @@ fn at(b: &[u8], i: usize) -> u64
     ensures { λ r. ⌜ r < 256 ⌝ }
 {
     if i < b.len() {
-        return fields::wide(b[i]);
+        return basis::fields::wide(b[i]);
     }
     0
 }
@@ -158,7 +158,7 @@ pub fn body_run(b: &[u8], h: Head, i: usize, run: &[u8]) -> bool {
     let p = header_length(h) + i;
     let mut k = 0;
     while k < run.len() {
-        if at(b, p + k) != fields::wide(run[k]) {
+        if at(b, p + k) != basis::fields::wide(run[k]) {
             return false;
         }
         k += 1;

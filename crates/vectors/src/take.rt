@@ -1,7 +1,7 @@
 // Taking things from the stream of vectors: bytes, numbers, a run of bytes behind its length, a header. Past the end everything is zero.
 ghost use Prim.Native.Nat.{_<_};
-use pdu_read_header::field::byte_at;
-use pdu_read_header::field::part_of;
+use pdu_read::field::byte_at;
+use pdu_read::field::part_of;
 use types::EntityId;
 use types::Head;
 use types::TransactionSeqNum;
@@ -20,7 +20,7 @@ pub fn on(at: usize, n: usize) -> usize {
 pub fn length(s: &[u8], at: usize) -> usize
     ensures { λ r. ⌜ r < 65536 ⌝ }
 {
-    (fields::num_at(s, at, 2) % 65536) as usize
+    (basis::fields::num_at(s, at, 2) % 65536) as usize
 }
 
 // A run of bytes behind its two bytes of length, and the place behind it.
@@ -44,9 +44,9 @@ pub fn head(s: &[u8], at: usize) -> Head {
     let flags = byte_at(s, at);
     let idw = byte_at(s, on(at, 1));
     let seqw = byte_at(s, on(at, 10));
-    let source = fields::num_at(s, on(at, 2), 8);
-    let number = fields::num_at(s, on(at, 11), 8);
-    let destination = fields::num_at(s, on(at, 19), 8);
+    let source = basis::fields::num_at(s, on(at, 2), 8);
+    let number = basis::fields::num_at(s, on(at, 11), 8);
+    let destination = basis::fields::num_at(s, on(at, 19), 8);
     Head {
         unacknowledged: flag(flags, 1),
         crc: flag(flags, 2),

@@ -44,28 +44,28 @@ use denote.Exit.{yes}
 use denote.Signature.{plain, shrSliceOf}
 use Rattle.basis.specs.Pick.{pick as choose}
 use Rattle.seam_rules.specs.Seam.{deliverDone}
-use Rattle.seam_calls.specs.Parts.{lightHeld, queueHeld}
-use Rattle.seam_calls.specs.Told.{heardDone}
-use Rattle.seam_memory.specs.declared.Handler.{Handler}
+use Rattle.seam.specs.Parts.{lightHeld, queueHeld}
+use Rattle.seam.specs.Told.{heardDone}
+use Rattle.seam_rules.specs.declared.memory.Handler.{Handler}
 use Rattle.seam_rules.specs.declared.Done.{Done}
-use Rattle.seam_calls.specs.declared.deliver.Heard.{Heard}
-use Rattle.seam_memory.proofs.Handler as H
-use Rattle.seam_calls.proofs.deliver.Heard as T
-use Rattle.seam_calls.proofs.light.Light as L
+use Rattle.seam.specs.declared.deliver.Heard.{Heard}
+use Rattle.seam_rules.proofs.memory.Handler as H
+use Rattle.seam.proofs.deliver.Heard as T
+use Rattle.seam.proofs.light.Light as L
 use Rattle.seam.proofs.Walk.{ty, written, reaches, own, exit, coded, row, lent, mach, machs, mach-tells, mach-typed, mach-makes, Seen, seen-mach, seen-is, seen-typed, light-ty, light-mach, light-machs, light-at, light-makes}
 use Rattle.seam.proofs.WalkHeard.{rest-ty, heard-ty, telling, Telt, telt-is, telling-is, code-fits, light-is, telt-typed, telling-makes}
-use Rattle.seam_calls.proofs.deliver.deliver_heard as callee
-use Rattle.seam_calls.proofs.deliver.deliver_heard.Symbol as callee-def
-use Rattle.seam_calls.proofs.deliver.deliver_heard.Symbol.{name as #callee}
-use Rattle.seam_calls.proofs.deliver.deliver_heard.Met as callee-thm
-use Rattle.seam_calls.proofs.deliver.queue_held as heavy
-use Rattle.seam_calls.proofs.deliver.queue_held.Symbol as heavy-def
-use Rattle.seam_calls.proofs.deliver.queue_held.Symbol.{name as #heavy}
-use Rattle.seam_calls.proofs.deliver.queue_held.Met as heavy-thm
-use Rattle.seam_calls.proofs.light.light_held as light
-use Rattle.seam_calls.proofs.light.light_held.Symbol as light-def
-use Rattle.seam_calls.proofs.light.light_held.Symbol.{name as #light}
-use Rattle.seam_calls.proofs.light.light_held.Met as light-thm
+use Rattle.seam.proofs.deliver.deliver_heard as callee
+use Rattle.seam.proofs.deliver.deliver_heard.Symbol as callee-def
+use Rattle.seam.proofs.deliver.deliver_heard.Symbol.{name as #callee}
+use Rattle.seam.proofs.deliver.deliver_heard.Met as callee-thm
+use Rattle.seam.proofs.deliver.queue_held as heavy
+use Rattle.seam.proofs.deliver.queue_held.Symbol as heavy-def
+use Rattle.seam.proofs.deliver.queue_held.Symbol.{name as #heavy}
+use Rattle.seam.proofs.deliver.queue_held.Met as heavy-thm
+use Rattle.seam.proofs.light.light_held as light
+use Rattle.seam.proofs.light.light_held.Symbol as light-def
+use Rattle.seam.proofs.light.light_held.Symbol.{name as #light}
+use Rattle.seam.proofs.light.light_held.Met as light-thm
 use Rattle.seam.proofs.tsendrivaty_deliver.Key.{name as #this}
 use Rattle.seam.proofs.tsendrivaty_deliver as this
 use Rattle.seam.proofs.tsendrivaty_deliver.Statement as stated
@@ -319,6 +319,6 @@ tsendrivaty-deliver-spec 𝓤 S 𝓜 𝓖 𝓡 =
     entered 𝓤 S (tripleOf 𝓤 S (𝓖 .A) this.signature (this.spec 𝓤 S (𝓖 .A) (𝓜 .mem) (𝓡 .run)))
     (tables 𝓤 S 𝓜 𝓡 code.env .C) (tables 𝓤 S 𝓜 𝓡 code.env .Λ) #this code.function (code.unfolded 𝓤 S 𝓜 𝓡)
     (this-meets 𝓤 S (𝓖 .A) (givenOf 𝓤 S 𝓜 𝓖) (𝓜 .mem) (𝓡 .run) (tablesOf 𝓤 S 𝓜 (tables 𝓤 S 𝓜 𝓡 code.env))
-    (cited 𝓤 S (Callee 𝓤 S (𝓖 .A) (𝓜 .mem) (𝓡 .run)) 𝓜 𝓡 code.env #callee callee-def.routine code.calls-seam-calls·deliver·deliver-heard (callee-thm.met 𝓤 S 𝓜 𝓖 𝓡))
-    (cited 𝓤 S (Heavy 𝓤 S (𝓖 .A) (𝓜 .mem) (𝓡 .run)) 𝓜 𝓡 code.env #heavy heavy-def.routine code.calls-seam-calls·deliver·queue-held (heavy-thm.met 𝓤 S 𝓜 𝓖 𝓡))
-    (cited 𝓤 S (Light 𝓤 S (𝓖 .A) (𝓜 .mem) (𝓡 .run)) 𝓜 𝓡 code.env #light light-def.routine code.calls-seam-calls·light·light-held (light-thm.met 𝓤 S 𝓜 𝓖 𝓡)))
+    (cited 𝓤 S (Callee 𝓤 S (𝓖 .A) (𝓜 .mem) (𝓡 .run)) 𝓜 𝓡 code.env #callee callee-def.routine code.calls-seam·deliver·deliver-heard (callee-thm.met 𝓤 S 𝓜 𝓖 𝓡))
+    (cited 𝓤 S (Heavy 𝓤 S (𝓖 .A) (𝓜 .mem) (𝓡 .run)) 𝓜 𝓡 code.env #heavy heavy-def.routine code.calls-seam·deliver·queue-held (heavy-thm.met 𝓤 S 𝓜 𝓖 𝓡))
+    (cited 𝓤 S (Light 𝓤 S (𝓖 .A) (𝓜 .mem) (𝓡 .run)) 𝓜 𝓡 code.env #light light-def.routine code.calls-seam·light·light-held (light-thm.met 𝓤 S 𝓜 𝓖 𝓡)))

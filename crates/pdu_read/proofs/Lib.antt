@@ -1,0 +1,4 @@
+pub mod Fields
+pub mod Tlvs
+pub mod Held
+pub mod Pairs

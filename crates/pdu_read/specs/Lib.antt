@@ -1,0 +1,2 @@
+pub mod Tlv
+pub mod Reader

@@ -1,2 +1,0 @@
-pub mod Memory
-pub mod Kept

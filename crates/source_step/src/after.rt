@@ -1,0 +1,116 @@
+// The state after each case of a step. The numbers are those of document 01's list.
+
+use source_due::sending::next_length;
+use source_state::no_eof;
+use types::Due;
+use types::Eof;
+use types::Sending;
+use types::State;
+use types::TransactionStep;
+ghost use mathlib.Core.Path.{_≡_};
+ghost use Prim.Native.Nat.{_+_, _<_};
+ghost use Rattle.rules.specs.States.{withQueue, withMarks, counted};
+ghost use Rattle.rules.specs.Queues.{served};
+ghost use Rattle.rules.specs.Step.{afterCancelEof, afterMetadata, afterData, afterEof};
+ghost use Rattle.source_step.specs.Once.{eofIn, afterWith, Countable};
+
+// 1: the EOF of a cancel is the end, or waits for its ACK.
+fn notice_of_cancellation(s: State, e: Eof) -> State
+    ensures { λ r. ⌜ r ≡ afterCancelEof s e ⌝ }
+{
+    if s.fixed.head.unacknowledged {
+        return source_state::idle(s.number);
+    }
+    source_state::start_positive_ack_procedure(s, e)
+}
+
+// 2: the request's rest, or its place free; progress stays.
+fn after_repair(s: State) -> State
+    ensures { λ r. ⌜ r ≡ withQueue s (served (s .fixed .segment) (s .queue)) ⌝ }
+{
+    let queue = source_queue::served(s.fixed.segment, s.queue);
+    let mut t = s;
+    t.queue = queue;
+    t
+}
+
+// 3: an empty file has no data to send.
+fn after_metadata(s: State) -> State
+    ensures { λ r. ⌜ r ≡ afterMetadata s ⌝ }
+{
+    if s.fixed.size == 0 {
+        return source_state::to_step(s, TransactionStep::SendingEof);
+    }
+    source_state::to_step(s, TransactionStep::SendingFileData)
+}
+
+// 4: progress moves past the bytes sent; at S the EOF is next.
+fn after_data(s: State) -> State
+    ensures { λ r. ⌜ r ≡ afterData s ⌝ }
+{
+    let p = s.file.progress + next_length(s);
+    if p == s.fixed.size {
+        return source_state::to_step(source_state::onward(s, p), TransactionStep::SendingEof);
+    }
+    source_state::onward(s, p)
+}
+
+// 5: the EOF waits for its ACK or for a Finished PDU, or is the end.
+fn after_eof(s: State, e: Eof) -> State
+    ensures { λ r. ⌜ r ≡ afterEof s e ⌝ }
+{
+    if !s.fixed.head.unacknowledged {
+        return source_state::start_positive_ack_procedure(s, e);
+    }
+    if s.fixed.closure {
+        return source_state::to_step(
+            source_state::keeping(s, e),
+            TransactionStep::WaitingForFinished,
+        );
+    }
+    source_state::idle(s.number)
+}
+
+// 6: the same EOF was sent again.
+fn after_eof_again(s: State) -> State
+    requires { ⌜ s .marks .count + 1 < s .fixed .limit ⌝ }
+    ensures { λ r. ⌜ r ≡ withMarks s (counted (s .marks) (s .marks .count + 1)) ⌝ }
+{
+    source_state::counted(s, s.marks.count + 1)
+}
+
+// The EOF that a PDU holds, so that it is computed once.
+pub fn eof_in(p: Sending) -> Eof
+    ensures { λ r. ⌜ r ≡ eofIn p ⌝ }
+{
+    match p {
+        Sending::Nothing => no_eof(),
+        Sending::Metadata => no_eof(),
+        Sending::FileData {
+            offset: _,
+            length: _,
+        } => no_eof(),
+        Sending::Eof(e) => e,
+        Sending::AckFinished(_) => no_eof(),
+    }
+}
+
+// `e` is the EOF that left, if one did.
+pub fn after_of(s: State, e: Eof, d: Due) -> State
+    requires { ⌜ Countable s d ⌝ }
+    ensures { λ r. ⌜ r ≡ afterWith s e d ⌝ }
+{
+    match d {
+        Due::CancelEof => notice_of_cancellation(s, e),
+        Due::Repair => after_repair(s),
+        Due::Metadata => after_metadata(s),
+        Due::Data => after_data(s),
+        Due::NoErrorEof => after_eof(s, e),
+        Due::EofAgain => after_eof_again(s),
+        Due::FaultCancel(c) => notice_of_cancellation(source_state::marked(s, c), e),
+        Due::FaultIgnore(_) => source_state::counted(s, 0),
+        Due::FaultAbandon(_) => source_state::idle(s.number),
+        Due::Close => source_state::idle(s.number),
+        Due::Nothing => s,
+    }
+}
