@@ -3,7 +3,8 @@
 
     python3 tests/trace_names.py
 
-Prints each name that is not there, with where it stands now if that is one place; the last line is a count. Status 0 if all are there.
+A function is what stands in backquotes with ::, an edit what stands with / in the column of the must-fail edits; a crate that is not there is told like any other name. Every row of TRACE with that column
+has an edit there, or says in words why it has none. Prints each name that is not there, with where it stands now if that is one place; the last line is a count. Status 0 if all are there.
 """
 import glob, os, re, sys
 
@@ -23,18 +24,38 @@ def functions(crate):
     return found
 
 
+def functions_named(text):
+    return {('::', c, n) for c, n in re.findall(r'`(\w+)::(\w+)`', text)}
+
+
+def edits_named(text):
+    """Those of the tables' column, and how many rows have neither an edit nor a word there."""
+    named, empty, column = set(), 0, None
+    for line in text.split('\n'):
+        cells = [c.strip() for c in line.split('|')]
+        if 'Must-fail edit' in cells:
+            column = cells.index('Must-fail edit')
+        elif not line.startswith('|'):
+            column = None
+        elif column and not set(cells[column]) <= set('-: '):
+            named |= {('/', c, n) for c, n in re.findall(r'\b(\w+)/(\w+)\b(?![./])', cells[column]) if c not in ('tests', 'docs', 'crates')}
+        elif column and cells[1].strip('-'):
+            empty += 1
+            print('no edit, and no word why: ' + line[:120])
+    return named, empty
+
+
 def main():
     have = {'/': {c: edits(c) for c in CRATES}, '::': {c: functions(c) for c in CRATES}}
     seen, missing = 0, 0
     for doc in ('TRACE.md', 'OPEN.md', 'DECISIONS.md', 'CHECKTIME.md'):
         with open(os.path.join(ROOT, 'docs', doc), encoding='utf-8') as f:
             text = f.read()
-        names = sorted(set(re.findall(r'\b(%s)(/|::)(\w+)\b(?![./])' % '|'.join(CRATES), text)))
-        for crate, mark, name in names:
-            if mark == '/' and name in ('src', 'specs', 'proofs', 'stdin', 'stdout', 'data', 'must'):
-                continue
+        named, empty = edits_named(text)
+        missing += empty
+        for mark, crate, name in sorted(named | functions_named(text)):
             seen += 1
-            if name not in have[mark][crate]:
+            if name not in have[mark].get(crate, ()):
                 missing += 1
                 now = [c for c in CRATES if name in have[mark][c]]
                 print(f'{doc}: {crate}{mark}{name} is not there' + (f'; {now[0]} has it' if len(now) == 1 else f'; {now}'))
