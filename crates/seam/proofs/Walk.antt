@@ -2,6 +2,7 @@
 -- field: no walk changes when a field does.
 -- Assumes nothing.
 use mathlib.Core.Path.{_≡_, refl, ap, subst}
+use mathlib.Core.Bool.{Bool, true, false, not}
 use mathlib.Core.Option.{some}
 use mathlib.Core.List.{[], _∷_, List}
 use Prim.Native.Nat.{ℕ, zero, _<_, _^_}
@@ -20,6 +21,7 @@ use denote.RattleType.{RattleType}
 use denote.Laws.{Is, Tells, Makes}
 use denote.Steps.{only}
 use denote.Struct.Laws as LL
+use Rattle.basis.specs.Pick.{pick}
 use Rattle.seam_rules.specs.declared.memory.Handler.{Handler}
 use Rattle.seam_rules.specs.declared.Done.{Done}
 use Rattle.seam.specs.declared.light.Light.{Light}
@@ -113,6 +115,16 @@ seen-mach k w is = ap only (LL.tells H.the-type H′.the-laws k _ is)
 pub seen-is : (k : Handler) (w : Val) → Seen k w → Is row k (machs k)
 unfolding Seen
 seen-is k w is = subst (λ (u : Val). Is row k (u ∷ [])) (seen-mach k w is) is
+
+-- ---- which handler is stored
+
+pub chosen : (t : Bool) (x y : Handler) → Holds t → x ≡ pick t x y
+chosen true x y h = refl
+chosen false x y h = absurd h
+
+pub other : (t : Bool) (x y : Handler) → Holds (not t) → y ≡ pick t x y
+other true x y h = absurd h
+other false x y h = refl
 
 -- ---- the light part of what a call tells
 
