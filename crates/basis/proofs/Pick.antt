@@ -7,7 +7,7 @@ use Prim.Native.Nat.{ℕ, _<_, _≤_}
 use native.Mathlib.Omega.{arith}
 use lib.Dec.{ltb, leb, eqb}
 use borrow.Author.Tests.{lt-ltb, le-ltb, le-leb, lt-leb, eq-eqb, ne-eqb, not-true, not-false}
-use Rattle.basis.specs.Pick.{pick, flag}
+use Rattle.basis.specs.Pick.{pick, not, flag}
 
 pub pick-t : {A : Type 0} (b : Bool) (r x y : A) → b ≡ true → r ≡ x → r ≡ pick b x y
 pick-t b r x y e p = p ∙ sym (ap (λ (t : Bool). pick t x y) e)
@@ -15,8 +15,15 @@ pick-t b r x y e p = p ∙ sym (ap (λ (t : Bool). pick t x y) e)
 pub pick-f : {A : Type 0} (b : Bool) (r x y : A) → b ≡ false → r ≡ y → r ≡ pick b x y
 pick-f b r x y e p = p ∙ sym (ap (λ (t : Bool). pick t x y) e)
 
+-- a test that is denied
+pub deny-t : (b : Bool) → b ≡ true → not b ≡ false
+deny-t b e = ap not e
+
+pub deny-f : (b : Bool) → b ≡ false → not b ≡ true
+deny-f b e = ap not e
+
 -- tests on numbers and flags that the function itself made
-pub ruleset picks = (pick-t, pick-f, lt-ltb, le-ltb, le-leb, lt-leb, eq-eqb, ne-eqb, not-true, not-false)
+pub ruleset picks = (pick-t, pick-f, deny-t, deny-f, lt-ltb, le-ltb, le-leb, lt-leb, eq-eqb, ne-eqb, not-true, not-false)
 
 -- a flag that a callee gave: a is its result, b what its contract says it is
 pub told : (a b v : Bool) → a ≡ b → a ≡ v → b ≡ v
