@@ -2,12 +2,12 @@
 -- A ruleset is given to `search`; the laws are tried backwards, from `r ≡ pick ..`.
 -- Assumes nothing.
 use mathlib.Core.Path.{_≡_, refl, sym, ap, subst, _∙_}
-use mathlib.Core.Bool.{Bool, true, false}
+use mathlib.Core.Bool.{Bool, true, false, false≢true}
 use Prim.Native.Nat.{ℕ, _<_, _≤_}
 use native.Mathlib.Omega.{arith}
 use lib.Dec.{ltb, leb, eqb}
 use borrow.Author.Tests.{lt-ltb, le-ltb, le-leb, lt-leb, eq-eqb, ne-eqb, not-true, not-false}
-use Rattle.basis.specs.Pick.{pick, not, flag}
+use Rattle.basis.specs.Pick.{pick, _and_, _or_, not, flag}
 
 pub pick-t : {A : Type 0} (b : Bool) (r x y : A) → b ≡ true → r ≡ x → r ≡ pick b x y
 pick-t b r x y e p = p ∙ sym (ap (λ (t : Bool). pick t x y) e)
@@ -21,6 +21,20 @@ deny-t b e = ap not e
 
 pub deny-f : (b : Bool) → b ≡ false → not b ≡ true
 deny-f b e = ap not e
+
+pub denied : (b : Bool) → not b ≡ true → b ≡ false
+denied true e = absurd (false≢true e)
+denied false e = refl
+
+-- two tests that both hold
+pub both : (a b : Bool) → (a and b) ≡ true → (a ≡ true) × (b ≡ true)
+both true b e = (refl, e)
+both false b e = absurd (false≢true e)
+
+-- one that holds wherever the other does
+pub wherever : (a b : Bool) → (a ≡ true → b ≡ true) → (not a or b) ≡ true
+wherever true b h = h refl
+wherever false b h = refl
 
 -- tests on numbers and flags that the function itself made
 pub ruleset picks = (pick-t, pick-f, deny-t, deny-f, lt-ltb, le-ltb, le-leb, lt-leb, eq-eqb, ne-eqb, not-true, not-false)

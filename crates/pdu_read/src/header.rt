@@ -15,7 +15,7 @@ use types::TransactionSeqNum;
 ghost use mathlib.Core.Path.{_≡_};
 ghost use Prim.Native.Nat.{_<_, _≤_, _^_};
 ghost use Rattle.rules_pdu.specs.Numbers.{goodWidth, C};
-ghost use Rattle.rules_pdu.specs.Reading.{bitIn, versionIn, crcIn, lengthIn, idWidthIn, seqWidthIn, headIn, hIn, endIn, bodyEnd, crcAgrees, wellFramed, frameIn, framedIn};
+ghost use Rattle.rules_pdu.specs.Reading.{bitIn, versionIn, crcIn, lengthIn, idWidthIn, seqWidthIn, headIn, hIn, endIn, bodyEnd, crcAgrees, crcGood, wellFramed, frameIn, framedIn};
 
 // ---- byte 0
 
@@ -153,6 +153,18 @@ fn crc_agrees(s: &[u8]) -> bool
     found == crc16(before) as u64
 }
 
+fn crc_good(s: &[u8]) -> bool
+    ensures { λ r. ⌜ r ≡ crcGood (now (s .entry)) ⌝ }
+{
+    if !has_crc(s) {
+        return true;
+    }
+    if data_length(s) < 2 {
+        return false;
+    }
+    crc_agrees(s)
+}
+
 fn well_framed(s: &[u8]) -> bool
     ensures { λ r. ⌜ r ≡ wellFramed (now (s .entry)) ⌝ }
 {
@@ -171,13 +183,7 @@ fn well_framed(s: &[u8]) -> bool
     if s.len() != pdu_end(s) {
         return false;
     }
-    if has_crc(s) {
-        if data_length(s) < 2 {
-            return false;
-        }
-        return crc_agrees(s);
-    }
-    true
+    crc_good(s)
 }
 
 fn frame_in(s: &[u8]) -> Frame

@@ -15,7 +15,7 @@ use Rattle.basis.specs.Bytes.{byte, numAt}
 use Rattle.basis.proofs.Pick.{cases}
 use Rattle.rules_pdu.specs.Numbers.{F}
 use Rattle.rules_leaves.specs.Checksum.{crc16}
-use Rattle.rules_pdu.specs.Reading.{endIn, headIn, crcAgrees, wellFramed, frameIn, framedIn, bodyIn, fileDataIn, toSenderIn, largeIn, reserved, finishedParams, finishedIn, ackIn, requestCount, nakIn, keepAliveIn, directiveIn, directed, bodyOf}
+use Rattle.rules_pdu.specs.Reading.{endIn, headIn, crcAgrees, crcGood, wellFramed, frameIn, framedIn, bodyIn, fileDataIn, toSenderIn, largeIn, reserved, finishedParams, finishedIn, ackIn, requestCount, nakIn, keepAliveIn, directiveIn, directed, bodyOf}
 use Rattle.rules.specs.Refusals.{answerNo}
 use Rattle.rules.specs.States.{isIdle}
 use Rattle.rules.specs.Queues.{invalid, anyInvalid, owing, free}
@@ -50,7 +50,7 @@ unfolding crcAgrees
 fails-crc s = search tests
 
 fails-frame : (s : List ℕ) → Fails (wellFramed s) (NoFrame s)
-unfolding wellFramed
+unfolding wellFramed crcGood
 fails-frame s = search (tests, tells-width, fails-crc) depth 12
 
 -- ---- 20 and 21: the body

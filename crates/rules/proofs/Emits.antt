@@ -10,12 +10,12 @@ use native.Mathlib.Omega.{arith}
 use lib.Dec.{eqb, ltb}
 use lib.ListN.{length, take}
 use borrow.Author.Tests.{eqb-true, ltb-false}
-use Rattle.basis.specs.Pick.{pick}
+use Rattle.basis.specs.Pick.{pick, _and_, not}
 use Rattle.basis.specs.Laid.{inFront}
 use Rattle.basis.proofs.Laid.{taken}
 use Rattle.rules_pdu.specs.Layout.{Said, encode, pduLength}
 use Rattle.rules.specs.States.{isIdle, sourceName, destinationName}
-use Rattle.rules.specs.Step.{dueOf, sendingOf, closureBit, bytesFor, afterOf, eventsOf, changed, refusedStep, bytesDue, made as madeStep, stepSpec, stepBytes}
+use Rattle.rules.specs.Step.{dueOf, sendingOf, closureBit, bytesFor, afterOf, eventsOf, changed, refusedStep, bytesDue, performed, stepSpec, stepBytes}
 use Rattle.rules.specs.Runs.{step, Event, turned, made, after, unless, pduIn, seen, LendsIn}
 use Rattle.rules.specs.Demand.{Transfer, saidOf}
 use Rattle.types.specs.declared.Head.{Head}
@@ -61,7 +61,7 @@ same-length : (w : Transfer) (s : State) (n : ℕ) → Sends (s .fixed) (s .name
 unfolding changed
 same-length w s n z b e = go (isIdle (s .step)) (eqb n (s .fixed .size)) b refl e
   where
-    go : (a b : Bool) → a ≡ false → eqb n (s .fixed .size) ≡ b → pick a false (pick b false true) ≡ false → n ≡ length (w .file)
+    go : (a b : Bool) → a ≡ false → eqb n (s .fixed .size) ≡ b → (not a and not b) ≡ false → n ≡ length (w .file)
     go true b x y e = absurd (true≢false x)
     go false true x y e = eqb-true n (s .fixed .size) y ∙ z .size-is
     go false false x y e = absurd (true≢false e)
@@ -84,10 +84,10 @@ module _ (w : Transfer) (s : State) (z : Sends (s .fixed) (s .names) w) where
   -- the lent file is the transfer's
   made-shows :
       (expired : Bool) (out : List ℕ)
-      → let r = madeStep s (w .file) (dueOf s expired) (length out) in
+      → let r = performed s (w .file) (dueOf s expired) (length out) in
       Shows w s (sendingOf s (w .file) (dueOf s expired)) (afterOf s (w .file) (dueOf s expired))
       (unless (r .answer) (made (pduIn (r .length) (inFront (bytesDue s (w .file) expired) out)))) (r .state)
-  unfolding madeStep
+  unfolding performed
   made-shows expired out = go (ltb (length out) (length bs)) refl
     where
       x : Sending
@@ -118,7 +118,7 @@ module _ (w : Transfer) (s : State) (z : Sends (s .fixed) (s .names) w) where
     where
       go :
           (b : Bool) → changed s (length lent) ≡ b
-          → let r = pick b (refusedStep s FileChanged) (madeStep s lent (dueOf s expired) (length out)) in
+          → let r = pick b (refusedStep s FileChanged) (performed s lent (dueOf s expired) (length out)) in
           Shows w s (sendingOf s (w .file) (dueOf s expired)) (afterOf s (w .file) (dueOf s expired))
           (unless (r .answer) (made (pduIn (r .length) (pick b out (inFront (bytesDue s lent expired) out))))) (r .state)
       go true e = refuses

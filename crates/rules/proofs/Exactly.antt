@@ -7,7 +7,7 @@ use mathlib.Core.List.{List, [], _∷_, _++_}
 use Prim.Native.Nat.{ℕ, _-_}
 use lib.Dec.{eqb, ltb}
 use lib.ListN.{length, drop}
-use Rattle.basis.specs.Pick.{pick}
+use Rattle.basis.specs.Pick.{pick, _and_, not}
 use Rattle.basis.specs.Bytes.{part}
 use Rattle.basis.specs.Laid.{inFront}
 use Rattle.basis.proofs.Pick.{cases}
@@ -17,7 +17,7 @@ use Rattle.rules.specs.States.{isIdle}
 use Rattle.rules.specs.Queues.{isMetadata, owes, anyInvalid, owing, free}
 use Rattle.rules.specs.Put.{putAnswer, putState, byAnswer, putSpec}
 use Rattle.rules.specs.Deliver.{stepNo, verdictOf, sameTransaction, takesNak, nakOf, asked, byVerdict, heard, byBody, byFrame, deliverSpec}
-use Rattle.rules.specs.Step.{dueOf, afterOf, eventsOf, changed, refusedStep, bytesDue, made, stepSpec, stepBytes}
+use Rattle.rules.specs.Step.{dueOf, afterOf, eventsOf, changed, refusedStep, bytesDue, performed, stepSpec, stepBytes}
 use Rattle.rules.specs.Cancel.{canCancel, mayCancel, userCancelled, cancelSpec}
 use Rattle.rules.specs.Exactly.{stepRules, StepExactly, CancelExactly, CancelMarks, OwesExactly, Counted, none, one, other, OwingExactly, NoEvents, RefusalChangesNothing}
 use Rattle.types.specs.declared.EntityId.{EntityId}
@@ -40,7 +40,7 @@ use Rattle.types.specs.declared.Answer.the-variants.{Accepted, Refused}
 use Rattle.types.specs.declared.Done.{Done}
 use Rattle.types.specs.declared.Stepped.{Stepped}
 use Rattle.types.specs.declared.Cancelled.{Cancelled}
-use Rattle.rules.proofs.Tells.{Tells, Fails, tests, tells-ltb, fails-map, fails-first, fails-yes, tells-iff, fails-iff, tells-step, tells-idle}
+use Rattle.rules.proofs.Tells.{Tells, Fails, tests, tells-ltb, fails-map, fails-either, fails-yes, tells-iff, fails-iff, tells-step, tells-idle}
 use Rattle.rules.proofs.Order.{hits, passes, exactly}
 
 -- ---- step
@@ -50,7 +50,7 @@ unfolding changed
 tells-changed s n = search (tests, tells-idle)
 
 pub step-exactly : StepExactly
-unfolding stepSpec made
+unfolding stepSpec performed
 step-exactly s file expired room =
     exactly (stepRules s file expired room) _ refl
     (hits (λ (r : Stepped). answerNo (r .answer)) (changed s (length file)) _ _ 30 _ _ (tells-changed s (length file)) refl
@@ -58,7 +58,7 @@ step-exactly s file expired room =
 
 -- ---- cancel
 
-can-no : (k : TransactionStep) → canCancel k ≡ pick (eqb (stepNo k) 0) false (pick (eqb (stepNo k) 6) false true)
+can-no : (k : TransactionStep) → canCancel k ≡ (not (eqb (stepNo k) 0) and not (eqb (stepNo k) 6))
 can-no Idle = refl
 can-no SendingMetadata = refl
 can-no SendingFileData = refl
@@ -68,7 +68,7 @@ can-no WaitingForFinished = refl
 can-no Closing = refl
 
 fails-can : (k : TransactionStep) → Fails (canCancel k) ((k ≡ Idle) ⊎ (k ≡ Closing))
-fails-can k = rw (can-no k) (fails-first (tells-step k Idle) (fails-yes (tells-step k Closing)))
+fails-can k = rw (can-no k) (fails-either (fails-yes (tells-step k Idle)) (fails-yes (tells-step k Closing)))
 
 fails-may : (s : State) (source : EntityId) (number : TransactionSeqNum)
     → Fails (mayCancel s source number)
@@ -163,7 +163,7 @@ StepKeeps s out r after = ¬ (answerNo (r .answer) ≡ 0) → (r .state ≡ s) �
 
 step-keeps : (s : State) (file : List ℕ) (expired : Bool) (out : List ℕ)
     → StepKeeps s out (stepSpec s file expired (length out)) (stepBytes s file expired out)
-unfolding stepSpec made stepBytes inFront
+unfolding stepSpec performed stepBytes inFront
 step-keeps s file expired out = go (changed s (length file)) (ltb (length out) (length (bytesDue s file expired)))
   where
     go : (b c : Bool)

@@ -11,7 +11,7 @@ use borrow.Author.Tests.{le-leb, lt-leb, le-ltb, eq-eqb}
 use Rattle.basis.specs.Pick.{pick}
 use Rattle.basis.specs.Laid.{inFront}
 use Rattle.basis.proofs.Laid.{taken}
-use Rattle.rules.specs.Step.{actionFor, faultDue, ackExpired, checkExpired, dueAt, eofOwed, dueOf, eventsOf, changed, made as madeStep, stepSpec, stepBytes}
+use Rattle.rules.specs.Step.{actionFor, faultDue, ackExpired, checkExpired, dueAt, eofOwed, dueOf, eventsOf, changed, performed, stepSpec, stepBytes}
 use Rattle.rules.specs.Runs.{step, Event, made, after, pduIn, seen, trace, behind}
 use Rattle.rules.specs.Expiry.{Waits, ExpiryDue, keptPdu, recounted, repeatsLeft, expiries, ExpiryCounted, withLimit, Limit0ActsAs1}
 use Rattle.types.specs.declared.State.{State}
@@ -62,7 +62,7 @@ module _ (file out : List ℕ) where
       → (stepBytes s file true out ≡ inFront (keptPdu s) out)
       × (stepSpec s file true (length out)
       ≡ record { answer = Accepted; length = length (keptPdu s); events = eventsOf s EofAgain; state = recounted s (s .marks .count + 1) })
-  unfolding stepSpec madeStep stepBytes
+  unfolding stepSpec performed stepBytes
   again-made s g c =
       let d = expiry-due .again s (g .0) c in
       let b = le-ltb (length out) (length (keptPdu s)) (g .2) in

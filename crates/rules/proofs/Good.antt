@@ -9,17 +9,17 @@ use native.Mathlib.Omega.{arith}
 use borrow.Author.Tests.{eqb-true, eqb-false, leb-false, ltb-true}
 use lib.Dec.{eqb, leb, ltb}
 use lib.ListN.{length, take}
-use Rattle.basis.specs.Pick.{pick}
+use Rattle.basis.specs.Pick.{pick, _and_, not}
 use Rattle.basis.specs.Bytes.{Bytes}
-use Rattle.basis.proofs.Pick.{cases}
+use Rattle.basis.proofs.Pick.{both, cases}
 use Rattle.rules.specs.States.{toStep, withQueue, withMarks, counted, emptyQueue, idle}
 use Rattle.rules.specs.Queues.{served}
-use Rattle.rules.specs.Step.{actionFor, faultDue, ackExpired, checkExpired, dueAt, eofOwed, dueOf, eofFor, cancelEof, nextLength, awaiting, afterCancelEof, afterMetadata, onward, afterData, afterEof, faultMarked, afterOf, changed, bytesDue, made, stepSpec}
+use Rattle.rules.specs.Step.{actionFor, faultDue, ackExpired, checkExpired, dueAt, eofOwed, dueOf, eofFor, cancelEof, nextLength, awaiting, afterCancelEof, afterMetadata, onward, afterData, afterEof, faultMarked, afterOf, changed, bytesDue, performed, stepSpec}
 use Rattle.rules.specs.Put.{putAnswer, putState, byAnswer, putSpec}
 use Rattle.rules.specs.Deliver.{stepNo}
 use Rattle.rules.specs.Cancel.{canCancel, mayCancel, userCancelled, cancelSpec, resetSpec, newSpec}
 use Rattle.rules.specs.Runs.{Call, put, deliver, step, cancel, reset, behind}
-use Rattle.rules.specs.Good.{GoodQueue, GoodMarks, Under, Whole, At, Good, GoodKept, Proper, AlwaysGood, AnomalyNeverMoves}
+use Rattle.rules.specs.Good.{GoodQueue, GoodMarks, Under, AllSent, At, Good, GoodKept, Proper, AlwaysGood, AnomalyNeverMoves}
 use Rattle.types.specs.declared.EntityId.{EntityId}
 use Rattle.types.specs.declared.TransactionSeqNum.{TransactionSeqNum}
 use Rattle.types.specs.declared.FileParams.{FileParams}
@@ -33,7 +33,6 @@ use Rattle.types.specs.declared.Answer.{Answer}
 use Rattle.types.specs.declared.Answer.the-variants.{Accepted, Refused}
 use Rattle.types.specs.declared.Stepped.{Stepped}
 use Rattle.types.specs.declared.Cancelled.{Cancelled}
-use Rattle.rules.proofs.Tells.{both}
 use Rattle.rules_leaves.proofs.Sums.{sum-lt}
 use Rattle.rules.proofs.GoodQueue.{good-empty, good-on, served-good}
 use Rattle.rules.proofs.GoodMarks.{good-noMarks, good-counted, good-settled, good-marked}
@@ -79,7 +78,7 @@ unowed o false e f = refl
 -- an EOF that waits for its ACK
 good-awaiting : (s : State) (file : List ℕ) (c n : ℕ) → GoodQueue (s .file .progress) (s .queue) → s .file .progress ≤ s .fixed .size → GoodMarks (s .marks)
     → ((s .fixed .head .unacknowledged ≡ true) ⊎ (s .marks .cancelled ≡ true) → s .queue ≡ emptyQueue)
-    → Bytes file → Under s → s .fixed .head .unacknowledged ≡ false → Whole s → n ≡ s .file .progress → c ≡ s .marks .condition
+    → Bytes file → Under s → s .fixed .head .unacknowledged ≡ false → AllSent s → n ≡ s .file .progress → c ≡ s .marks .condition
     → Good (awaiting s (eofFor s file c n))
 unfolding eofFor
 good-awaiting s file c n q p m i h u a w r e =
@@ -271,7 +270,7 @@ module _ (s : State) (file : List ℕ) (g : Good s) (h : Bytes file) where
       (λ o. cases P (ltb 0 (s .queue .count)) Repair _ (λ e. repair (ltb-true 0 (s .queue .count) e)) (λ _. at-good expired o (s .step) refl (g .here)))
 
   step-good : (expired : Bool) (room : ℕ) → Good (stepSpec s file expired room .state)
-  unfolding stepSpec made
+  unfolding stepSpec performed
   step-good expired room =
       let P : Stepped → Type 0 = λ r. Good (r .state) in
       cases P (changed s (length file)) _ _ (λ _. g)
@@ -291,8 +290,8 @@ cancel-at s Closing c p = absurd (false≢true c)
 cancel-good : (s : State) (source : EntityId) (number : TransactionSeqNum) → Good s → Good (cancelSpec s source number .state)
 unfolding cancelSpec mayCancel
 cancel-good s source number g =
-    let same = pick (eqb (source .1) (s .fixed .head .source .1)) (eqb (number .1) (s .fixed .head .number .1)) false in
-    cases (λ (r : Cancelled). Good (r .state)) (pick (canCancel (s .step)) (pick (s .marks .cancelled) false same) false) _ _
+    let same = eqb (source .1) (s .fixed .head .source .1) and eqb (number .1) (s .fixed .head .number .1) in
+    cases (λ (r : Cancelled). Good (r .state)) (canCancel (s .step) and not (s .marks .cancelled) and same) _ _
     (λ e.
     record {
       queue = good-empty (s .file .progress);
@@ -301,7 +300,7 @@ cancel-good s source number g =
       count = g .count;
       marks = good-marked (s .marks) 15 true (inr refl) (g .marks);
       silent = λ _. refl;
-      here = cancel-at s (s .step) (both (canCancel (s .step)) (pick (s .marks .cancelled) false same) e .0) (g .here);
+      here = cancel-at s (s .step) (both (canCancel (s .step)) (not (s .marks .cancelled) and same) e .0) (g .here);
     })
     (λ _. g)
 

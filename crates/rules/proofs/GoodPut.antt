@@ -10,6 +10,7 @@ use lib.Dec.{eqb, ltb}
 use lib.ListN.{length, take, replicate, length-append, length-replicate}
 use lib.Seq.{take-append-seam, drop-append-seam}
 use Rattle.basis.specs.Pick.{pick}
+use Rattle.basis.proofs.Pick.{both}
 use Rattle.rules_leaves.specs.Utf8.{isUtf8}
 use Rattle.rules_pdu.specs.Layout.{metadata, encode, pduLength}
 use Rattle.rules.specs.States.{isIdle}
@@ -23,7 +24,7 @@ use Rattle.types.specs.declared.PutRequest.{PutRequest}
 use Rattle.types.specs.declared.State.{State}
 use Rattle.types.specs.declared.Refusal.{Refusal}
 use Rattle.types.specs.declared.Answer.the-variants.{Accepted, Refused}
-use Rattle.rules.proofs.Tells.{both, but}
+use Rattle.rules.proofs.Tells.{but}
 use Rattle.rules.proofs.Outcomes.{passed}
 use Rattle.rules.proofs.Begun.{head-fit, entry-good, name-lengths, packet-holds, segment-range}
 use Rattle.rules.proofs.PutExactly.{tells-type, fails-actions}

@@ -10,7 +10,7 @@ use native.Mathlib.Omega.{arith}
 use lib.Dec.{ltb}
 use lib.ListN.{length, take, drop, length-take, length-append}
 use borrow.Author.Tests.{le-ltb, eq-eqb}
-use Rattle.basis.specs.Pick.{pick}
+use Rattle.basis.specs.Pick.{pick, _and_, not}
 use Rattle.basis.specs.Bytes.{part}
 use Rattle.rules_pdu.specs.Numbers.{H, F, C}
 use Rattle.rules_pdu.specs.Layout.{encodeHeard, nak, pduLength, Pdu}
@@ -19,7 +19,7 @@ use Rattle.rules_pdu.specs.PduLaws.{firstPair}
 use Rattle.rules.specs.States.{isIdle, idle}
 use Rattle.rules.specs.Deliver.{requestsIn}
 use Rattle.rules.specs.Put.{entryOf, putSpec, putAnswer, putState, byAnswer}
-use Rattle.rules.specs.Step.{dueOf, sendingOf, bytesFor, changed, made as madeStep, stepSpec, afterOf, stepBytes}
+use Rattle.rules.specs.Step.{dueOf, sendingOf, bytesFor, changed, performed, stepSpec, afterOf, stepBytes}
 use Rattle.rules.specs.Cancel.{newSpec}
 use Rattle.rules.specs.Runs.{Event, trace, behind, firstPass, requestsOfFrame, requestsOfBody, requests, Call, put, deliver, step, cancel, reset, turned, made, unless, pduIn, seen, emitted}
 use Rattle.rules.specs.Demand.{Transfer, planned, lastly, transferOf, meant}
@@ -79,12 +79,12 @@ unchanged : (w : Transfer) (s : State) → Inv w s → changed s (length (w .fil
 unfolding changed
 unchanged w s i = rw (eq-eqb (length (w .file)) (s .fixed .size) (sym (i .sends .size-is))) (go (isIdle (s .step)))
   where
-    go : (b : Bool) → pick b false false ≡ false
+    go : (b : Bool) → (not b and false) ≡ false
     go true = refl
     go false = refl
 
 step-live : (w : Transfer) (s : State) → Inv w s → (n : ℕ) → Wide w n → (expired : Bool) (m : ℕ) → n ≤ m → stepSpec s (w .file) expired m .answer ≡ Accepted
-unfolding stepSpec madeStep
+unfolding stepSpec performed
 step-live w s i n z expired m l =
     let d = sendingOf s (w .file) (dueOf s expired) in
     let e : length (bytesFor s (w .file) d) ≤ n = rw (same-bytes w s (i .sends) d) (does-fit n z d _ (due-does w s i expired)) in

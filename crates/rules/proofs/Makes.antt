@@ -9,7 +9,7 @@ use lib.ListN.{length}
 use Rattle.basis.specs.Pick.{pick}
 use Rattle.basis.proofs.Pick.{cases}
 use Rattle.rules.specs.Put.{entryOf, chosen, started, putAnswer, putState, byAnswer, putSpec}
-use Rattle.rules.specs.Step.{actionFor, faultDue, checkExpired, dueAt, eofOwed, dueOf, eofFor, sendingOf, afterCancelEof, afterEof, afterOf, eventsOf, refusedStep, changed, made as madeStep, stepSpec}
+use Rattle.rules.specs.Step.{actionFor, faultDue, checkExpired, dueAt, eofOwed, dueOf, eofFor, sendingOf, afterCancelEof, afterEof, afterOf, eventsOf, refusedStep, changed, performed, stepSpec}
 use Rattle.rules.specs.Makes.{Chosen, PutMade, PutMakes, MovedMakes, FirstEof, Checks, StepMakes}
 use Rattle.types.specs.declared.Choice.{Choice}
 use Rattle.types.specs.declared.Choice.the-variants.{Given, Default}
@@ -78,7 +78,7 @@ refused-done : (s : State) (file : List ℕ) (d : Due) (n : Refusal) → Done s 
 refused-done s file d n e = absurd (refused≢accepted n e)
 
 done-is : (s : State) (file : List ℕ) (expired : Bool) (room : ℕ) → Done s file (dueOf s expired) (stepSpec s file expired room)
-unfolding stepSpec madeStep
+unfolding stepSpec performed
 done-is s file expired room =
     cases (Done s file (dueOf s expired)) (changed s (length file)) _ _ (λ t. refused-done s file (dueOf s expired) _)
     (λ t. cases (Done s file (dueOf s expired)) (ltb room _) _ _ (λ u. refused-done s file (dueOf s expired) _) (λ u e. (refl, refl)))

@@ -12,7 +12,7 @@ use Rattle.rules.specs.States.{idle}
 use Rattle.rules.specs.Queues.{anyInvalid, owing, free}
 use Rattle.rules.specs.Put.{started, putAnswer, putState, byAnswer, putSpec}
 use Rattle.rules.specs.Deliver.{verdictOf, takesNak, nakOf, movedBy, asked, byVerdict, deliverSpec}
-use Rattle.rules.specs.Step.{dueOf, nextLength, afterCancelEof, afterMetadata, afterData, afterEof, afterOf, changed, bytesDue, made as madeStep, stepSpec}
+use Rattle.rules.specs.Step.{dueOf, nextLength, afterCancelEof, afterMetadata, afterData, afterEof, afterOf, changed, bytesDue, performed, stepSpec}
 use Rattle.rules.specs.Cancel.{resetSpec}
 use Rattle.rules.specs.Runs.{put, deliver, step, cancel, reset, Event, began, took, made, after, unless, trace, behind}
 use Rattle.rules.specs.NumberMoves.{moves, movesAll, NumberMoves, NumberBehind}
@@ -101,7 +101,7 @@ module _ (s : State) where
   due-same file Nothing = refl
 
   step-same : (file : List ℕ) (expired : Bool) (room : ℕ) → Same (stepSpec s file expired room .state)
-  unfolding stepSpec madeStep
+  unfolding stepSpec performed
   step-same file expired room =
       let P : Stepped → Type 0 = λ r. Same (r .state) in
       cases P (changed s (length file)) _ _ (λ _. refl)

@@ -8,8 +8,9 @@ use Prim.Native.Nat.{ℕ}
 use borrow.Author.Tests.{eqb-false}
 use lib.Dec.{eqb}
 use Rattle.basis.specs.Pick.{pick}
+use Rattle.basis.proofs.Pick.{both}
 use Rattle.rules.specs.Exactly.{Rule, _when_, After, Exactly}
-use Rattle.rules.proofs.Tells.{Tells, Fails, both, but}
+use Rattle.rules.proofs.Tells.{Tells, Fails, but}
 
 -- the number of the first line whose condition holds, 0 if none does
 abbrev FirstIs : List Rule → ℕ → Type 0

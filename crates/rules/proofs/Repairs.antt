@@ -18,7 +18,7 @@ use Rattle.rules.specs.States.{isIdle, withQueue, emptyQueue, idle}
 use Rattle.rules.specs.Queues.{oldest, served}
 use Rattle.rules.specs.Put.{putSpec}
 use Rattle.rules.specs.Deliver.{refused, accepted, nakOf, verdictOf, byVerdict, movedBy, asked, requestsIn, deliverSpec}
-use Rattle.rules.specs.Step.{actionFor, faultDue, ackExpired, checkExpired, eofOwed, dueAt, dueOf, sendingOf, repairOf, nextLength, afterCancelEof, afterMetadata, afterData, afterEof, afterOf, changed, made as madeStep, stepSpec}
+use Rattle.rules.specs.Step.{actionFor, faultDue, ackExpired, checkExpired, eofOwed, dueAt, dueOf, sendingOf, repairOf, nextLength, afterCancelEof, afterMetadata, afterData, afterEof, afterOf, changed, performed, stepSpec}
 use Rattle.rules.specs.Tiles.{answers}
 use Rattle.rules.specs.Runs.{Call, put, deliver, step, cancel, reset, Event, turned, began, took, made, ended, after, unless, seen, trace, behind, LendsIn, Lends, steps, NoPut, NoEnd, StepsOnly, requests, emitted}
 use Rattle.rules.specs.Demand.{Transfer, transferOf, meant}
@@ -215,7 +215,7 @@ module _ (w : Transfer) (pos : 0 < w .segment) (s : State) (b : Busy w s) where
   due-keeps file Nothing h = works b
 
 idle-step : (n : TransactionSeqNum) (file : List ℕ) (expired : Bool) (room : ℕ) → stepSpec (idle n) file expired room .state ≡ idle n
-unfolding stepSpec changed madeStep dueOf eofOwed idle
+unfolding stepSpec changed performed dueOf eofOwed idle
 idle-step n file expired room = cases (λ (r : Stepped). r .state ≡ idle n) (ltb room 0) _ _ (λ e. refl) (λ e. refl)
 
 -- ---- all calls, from the put on

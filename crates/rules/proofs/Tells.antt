@@ -1,4 +1,4 @@
--- Tests and what they tell: a Bool is the test of a proposition (Tells), or of its failing (Fails). One law for each way to join two tests by `pick`.
+-- Tests and what they tell: a Bool is the test of a proposition (Tells), or of its failing (Fails). One law for each way to join tests.
 -- Assumes nothing.
 use mathlib.Core.Path.{_≡_, refl, sym, ap, _∙_}
 use mathlib.Core.Logic.{_↔_, _⊎_, inl, inr, ⊎-elim}
@@ -9,7 +9,7 @@ use native.Mathlib.Nat.{not-le-of-lt}
 use borrow.Author.Tests.{ltb-true, ltb-false, leb-true, leb-false, eqb-true, eqb-false}
 use lib.Dec.{eqb, leb, ltb}
 use lib.ListN.{getD}
-use Rattle.basis.specs.Pick.{pick}
+use Rattle.basis.specs.Pick.{pick, _and_, _or_, not}
 use Rattle.rules.specs.States.{isIdle}
 use Rattle.rules.specs.Deliver.{stepNo}
 use Rattle.types.specs.declared.TransactionStep.{TransactionStep}
@@ -53,26 +53,21 @@ fails-map f g t = record { yes = λ e. f (t .yes e); no = λ e h. t .no e (g h) 
 -- ---- two tests
 
 -- both hold
-pub tells-both : {b c : Bool} {P Q : Type 0} → Tells b P → Tells c Q → Tells (pick b c false) (P × Q)
+pub tells-both : {b c : Bool} {P Q : Type 0} → Tells b P → Tells c Q → Tells (b and c) (P × Q)
 tells-both {b = true} p q = record { yes = λ e. (p .yes refl, q .yes e); no = λ e h. q .no e (h .1) }
 tells-both {b = false} p q = record { yes = λ e. absurd (false≢true e); no = λ e h. p .no refl (h .0) }
 
 -- either holds
-pub tells-either : {b c : Bool} {P Q : Type 0} → Tells b P → Tells c Q → Tells (pick b true c) (P ⊎ Q)
+pub tells-either : {b c : Bool} {P Q : Type 0} → Tells b P → Tells c Q → Tells (b or c) (P ⊎ Q)
 tells-either {b = true} p q = record { yes = λ e. inl (p .yes refl); no = λ e. absurd (true≢false e) }
 tells-either {b = false} p q = record { yes = λ e. inr (q .yes e); no = λ e. ⊎-elim (p .no refl) (q .no e) }
 
--- the first doesn't hold, and the second does
-pub tells-but : {b c : Bool} {P Q : Type 0} → Tells b P → Tells c Q → Tells (pick b false c) ((¬ P) × Q)
-tells-but {b = true} p q = record { yes = λ e. absurd (false≢true e); no = λ e h. h .0 (p .yes refl) }
-tells-but {b = false} p q = record { yes = λ e. (p .no refl, q .yes e); no = λ e h. q .no e (h .1) }
-
-pub tells-not : {b : Bool} {P : Type 0} → Tells b P → Tells (pick b false true) (¬ P)
+pub tells-not : {b : Bool} {P : Type 0} → Tells b P → Tells (not b) (¬ P)
 tells-not {b = true} p = record { yes = λ e. absurd (false≢true e); no = λ e h. h (p .yes refl) }
 tells-not {b = false} p = record { yes = λ e. p .no refl; no = λ e. absurd (true≢false e) }
 
 -- one fails
-pub fails-either : {b c : Bool} {P Q : Type 0} → Fails b P → Fails c Q → Fails (pick b c false) (P ⊎ Q)
+pub fails-either : {b c : Bool} {P Q : Type 0} → Fails b P → Fails c Q → Fails (b and c) (P ⊎ Q)
 fails-either {b = true} p q = record { yes = λ e. inr (q .yes e); no = λ e. ⊎-elim (p .no refl) (q .no e) }
 fails-either {b = false} p q = record { yes = λ e. inl (p .yes refl); no = λ e. absurd (false≢true e) }
 
@@ -81,16 +76,16 @@ pub fails-first : {b c : Bool} {P Q : Type 0} → Tells b P → Fails c Q → Fa
 fails-first {b = true} p q = record { yes = λ e. inl (p .yes refl); no = λ e. absurd (false≢true e) }
 fails-first {b = false} p q = record { yes = λ e. inr (q .yes e); no = λ e. ⊎-elim (p .no refl) (q .no e) }
 
--- where the first holds, the second fails
-pub fails-where : {b c : Bool} {P Q : Type 0} → Tells b P → Fails c Q → Fails (pick b c true) (P × Q)
-fails-where {b = true} p q = record { yes = λ e. (p .yes refl, q .yes e); no = λ e h. q .no e (h .1) }
-fails-where {b = false} p q = record { yes = λ e. absurd (true≢false e); no = λ e h. p .no refl (h .0) }
+-- both fail
+pub fails-both : {b c : Bool} {P Q : Type 0} → Fails b P → Fails c Q → Fails (b or c) (P × Q)
+fails-both {b = true} p q = record { yes = λ e. absurd (true≢false e); no = λ e h. p .no refl (h .0) }
+fails-both {b = false} p q = record { yes = λ e. (p .yes refl, q .yes e); no = λ e h. q .no e (h .1) }
 
-pub fails-yes : {b : Bool} {P : Type 0} → Tells b P → Fails (pick b false true) P
+pub fails-yes : {b : Bool} {P : Type 0} → Tells b P → Fails (not b) P
 fails-yes {b = true} p = record { yes = λ e. p .yes refl; no = λ e. absurd (false≢true e) }
 fails-yes {b = false} p = record { yes = λ e. absurd (true≢false e); no = λ e. p .no refl }
 
-pub ruleset tests = (tells-eqb, tells-ltb, fails-leb, tells-flag, fails-flag, fails-not, tells-both, tells-either, tells-but, tells-not, fails-either, fails-first, fails-where, fails-yes)
+pub ruleset tests = (tells-eqb, tells-ltb, fails-leb, tells-flag, fails-flag, fails-not, tells-both, tells-either, tells-not, fails-either, fails-first, fails-both, fails-yes)
 
 -- a test read as an equivalence
 pub tells-iff : {b : Bool} {P : Type 0} → Tells b P → (b ≡ true) ↔ P
@@ -106,10 +101,6 @@ iff-tells {b = true} i = record { yes = i .0; no = λ e. absurd (true≢false e)
 iff-tells {b = false} i = record { yes = i .0; no = λ e h. false≢true (i .1 h) }
 
 -- ---- a joined test taken apart
-
-pub both : (b c : Bool) → pick b c false ≡ true → (b ≡ true) × (c ≡ true)
-both true c e = (refl, e)
-both false c e = absurd (false≢true e)
 
 pub but : (b c : Bool) → pick b false c ≡ true → (b ≡ false) × (c ≡ true)
 but true c e = absurd (false≢true e)

@@ -3,7 +3,7 @@
 use mathlib.Core.Bool.{Bool, true, false}
 use Prim.Native.Nat.{ℕ}
 use lib.Dec.{eqb}
-use Rattle.basis.specs.Pick.{pick}
+use Rattle.basis.specs.Pick.{pick, _and_, not}
 use Rattle.rules.specs.States.{withQueue, withMarks, marked, emptyQueue, idle}
 use Rattle.types.specs.declared.EntityId.{EntityId}
 use Rattle.types.specs.declared.TransactionSeqNum.{TransactionSeqNum}
@@ -24,10 +24,10 @@ canCancel Closing = false
 
 unfoldable pub mayCancel : State → EntityId → TransactionSeqNum → Bool
 mayCancel s source number =
-    pick (canCancel (s .step))
-    (pick (s .marks .cancelled) false
-    (pick (eqb (source .1) (s .fixed .head .source .1)) (eqb (number .1) (s .fixed .head .number .1)) false))
-    false
+    canCancel (s .step)
+    and not (s .marks .cancelled)
+    and eqb (source .1) (s .fixed .head .source .1)
+    and eqb (number .1) (s .fixed .head .number .1)
 
 -- "User cancel: condition 15, mark set, queue emptied, EOF owed."
 abbrev pub userCancelled : State → State

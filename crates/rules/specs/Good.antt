@@ -91,25 +91,25 @@ pub record GoodMarks (m : Marks) : Type 0 where
 -- ---- by the step
 
 -- the first pass went through the whole file, unless it was cancelled
-abbrev pub Whole : State → Type 0
-Whole s = s .marks .cancelled ≡ false → s .file .progress ≡ s .fixed .size
+abbrev pub AllSent : State → Type 0
+AllSent s = s .marks .cancelled ≡ false → s .file .progress ≡ s .fixed .size
 
 -- the kept EOF is of the bytes sent, with the transaction's condition
 abbrev pub Kept : State → Type 0
 Kept s = s .marks .owed ≡ false → (s .file .eof .size ≡ s .file .progress) × (s .file .eof .condition ≡ s .marks .condition)
 
 -- cancelled, and the EOF not yet sent, or not cancelled
-abbrev pub Sending : State → Type 0
-Sending s = s .marks .owed ≡ s .marks .cancelled
+abbrev pub OwedIfCancelled : State → Type 0
+OwedIfCancelled s = s .marks .owed ≡ s .marks .cancelled
 
 abbrev pub At : TransactionStep → State → Type 0
 At Idle s = s ≡ idle (s .number)
-At SendingMetadata s = Under s × Sending s × (s .file ≡ noFile) × (s .queue ≡ emptyQueue)
-At SendingFileData s = Under s × Sending s × (s .file .progress < s .fixed .size)
-At SendingEof s = Under s × Sending s × (s .file .progress ≡ s .fixed .size)
-At WaitingForEofAck s = Under s × (s .fixed .head .unacknowledged ≡ false) × Whole s × Kept s
-At WaitingForFinished s = Under s × (s .fixed .head .unacknowledged ≡ true → s .fixed .closure ≡ true) × Whole s
-At Closing s = Under s × (s .marks .owed ≡ false) × (s .queue ≡ emptyQueue) × Whole s
+At SendingMetadata s = Under s × OwedIfCancelled s × (s .file ≡ noFile) × (s .queue ≡ emptyQueue)
+At SendingFileData s = Under s × OwedIfCancelled s × (s .file .progress < s .fixed .size)
+At SendingEof s = Under s × OwedIfCancelled s × (s .file .progress ≡ s .fixed .size)
+At WaitingForEofAck s = Under s × (s .fixed .head .unacknowledged ≡ false) × AllSent s × Kept s
+At WaitingForFinished s = Under s × (s .fixed .head .unacknowledged ≡ true → s .fixed .closure ≡ true) × AllSent s
+At Closing s = Under s × (s .marks .owed ≡ false) × (s .queue ≡ emptyQueue) × AllSent s
 
 -- ---- together
 

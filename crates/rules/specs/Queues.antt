@@ -6,7 +6,7 @@ use mathlib.Core.List.{List, [], _∷_, _++_}
 use Prim.Native.Nat.{ℕ, suc, _+_, _-_, min}
 use lib.Dec.{eqb, leb, ltb}
 use lib.ListN.{length, getD, take, drop, set}
-use Rattle.basis.specs.Pick.{pick}
+use Rattle.basis.specs.Pick.{pick, _and_, _or_}
 use Rattle.rules.specs.States.{blank}
 use Rattle.types.specs.declared.SegmentRequest.{SegmentRequest}
 use Rattle.types.specs.declared.Queue.{Queue}
@@ -17,19 +17,19 @@ pending q = take (q .count) (q .places)
 
 -- "Pair (0, 0) owes the metadata PDU"
 unfoldable pub isMetadata : SegmentRequest → Bool
-isMetadata r = pick (eqb (r .start) 0) (eqb (r .end) 0) false
+isMetadata r = eqb (r .start) 0 and eqb (r .end) 0
 
 -- "start = end otherwise owes nothing and takes no place; any other owes .."
 unfoldable pub owes : SegmentRequest → Bool
-owes r = pick (isMetadata r) true (ltb (r .start) (r .end))
+owes r = isMetadata r or ltb (r .start) (r .end)
 
 -- 24 InvalidNakPdu: "a request with end < start or end > progress"
 unfoldable pub invalid : ℕ → SegmentRequest → Bool
-invalid progress r = pick (ltb (r .end) (r .start)) true (ltb progress (r .end))
+invalid progress r = ltb (r .end) (r .start) or ltb progress (r .end)
 
 unfoldable pub anyInvalid : ℕ → List SegmentRequest → Bool
 anyInvalid progress [] = false
-anyInvalid progress (r ∷ rs) = pick (invalid progress r) true (anyInvalid progress rs)
+anyInvalid progress (r ∷ rs) = invalid progress r or anyInvalid progress rs
 
 -- 25 RetransmitFull: "its requests that owe a PDU exceed the free places"
 unfoldable pub owing : List SegmentRequest → ℕ

@@ -6,7 +6,7 @@ use mathlib.Core.List.{List, [], _∷_}
 use Prim.Native.Nat.{ℕ, _+_, _-_, min}
 use lib.Dec.{eqb, leb, ltb}
 use lib.ListN.{length, getD, take, drop}
-use Rattle.basis.specs.Pick.{pick}
+use Rattle.basis.specs.Pick.{pick, _and_, not}
 use Rattle.basis.specs.Laid.{inFront}
 use Rattle.rules_leaves.specs.Checksum.{sumOf}
 use Rattle.rules_pdu.specs.Layout.{Said, metadata, fileData, eof, ackFinished, encode}
@@ -67,7 +67,7 @@ dueAt Closing s expired = Close
 
 -- 1: "Cancelled and EOF owed"
 unfoldable pub eofOwed : State → Bool
-eofOwed s = pick (s .marks .cancelled) (s .marks .owed) false
+eofOwed s = s .marks .cancelled and s .marks .owed
 
 -- 2: "Queue not empty .. The expiry flag isn't read."
 unfoldable pub dueOf : State → Bool → Due
@@ -109,7 +109,7 @@ sendingOf s file Nothing = NoPdu
 
 -- "closure 1 (written 0 in acknowledged mode)"
 unfoldable pub closureBit : State → Bool
-closureBit s = pick (s .fixed .head .unacknowledged) (s .fixed .closure) false
+closureBit s = s .fixed .head .unacknowledged and s .fixed .closure
 
 -- what it says: the file's bytes are the lent ones; "status Active" is 1
 abbrev pub metadataOf : State → Said
@@ -175,11 +175,9 @@ afterOf s file Nothing = s
 abbrev pub idOf : State → TransactionId
 idOf s = (s .fixed .head .source, s .fixed .head .number)
 
-abbrev pub events : State → Bool → Bool → FaultEvent → FinishedEvent → TimerEvent → Events
-events s t e f d k = record { id = idOf s; transaction = t; eofsent = e; fault = f; finished = d; timer = k }
-
+-- none
 abbrev pub quiet : State → Events
-quiet s = events s false false NoFault NotFinished NoTimer
+quiet s = record { id = idOf s; transaction = false; eofsent = false; fault = NoFault; finished = NotFinished; timer = NoTimer }
 
 -- "Each EOF gives an EOF-sent event; this and the finished events of 5 and 8 come only if the configuration's flag is set."
 unfoldable pub finishedIf : State → FinishedParams → FinishedEvent
@@ -201,23 +199,31 @@ unfoldable pub eofFinished : State → FinishedEvent
 eofFinished s = pick (s .fixed .head .unacknowledged) (pick (s .fixed .closure) NotFinished (finishedIf s unreported)) NotFinished
 
 abbrev pub eventsOf : State → Due → Events
-eventsOf s CancelEof = events s false (s .fixed .eofsent) NoFault NotFinished (ackTimer s)
+eventsOf s CancelEof =
+    record { id = idOf s; transaction = false; eofsent = s .fixed .eofsent; fault = NoFault; finished = NotFinished; timer = ackTimer s }
 eventsOf s Repair = quiet s
-eventsOf s Metadata = events s true false NoFault NotFinished NoTimer
+eventsOf s Metadata =
+    record { id = idOf s; transaction = true; eofsent = false; fault = NoFault; finished = NotFinished; timer = NoTimer }
 eventsOf s Data = quiet s
-eventsOf s NoErrorEof = events s false (s .fixed .eofsent) NoFault (eofFinished s) (eofTimer s)
-eventsOf s EofAgain = events s false (s .fixed .eofsent) NoFault NotFinished AckTimer
-eventsOf s (FaultCancel c) = events s false (s .fixed .eofsent) (Fault 1 c (s .file .progress)) NotFinished (ackTimer s)
-eventsOf s (FaultIgnore c) = events s false false (Fault 3 c (s .file .progress)) NotFinished NoTimer
-eventsOf s (FaultAbandon c) = events s false false (Fault 4 c (s .file .progress)) NotFinished NoTimer
-eventsOf s Close = events s false false NoFault (finishedIf s (s .marks .finished)) NoTimer
+eventsOf s NoErrorEof =
+    record { id = idOf s; transaction = false; eofsent = s .fixed .eofsent; fault = NoFault; finished = eofFinished s; timer = eofTimer s }
+eventsOf s EofAgain =
+    record { id = idOf s; transaction = false; eofsent = s .fixed .eofsent; fault = NoFault; finished = NotFinished; timer = AckTimer }
+eventsOf s (FaultCancel c) =
+    record { id = idOf s; transaction = false; eofsent = s .fixed .eofsent; fault = Fault 1 c (s .file .progress); finished = NotFinished; timer = ackTimer s }
+eventsOf s (FaultIgnore c) =
+    record { id = idOf s; transaction = false; eofsent = false; fault = Fault 3 c (s .file .progress); finished = NotFinished; timer = NoTimer }
+eventsOf s (FaultAbandon c) =
+    record { id = idOf s; transaction = false; eofsent = false; fault = Fault 4 c (s .file .progress); finished = NotFinished; timer = NoTimer }
+eventsOf s Close =
+    record { id = idOf s; transaction = false; eofsent = false; fault = NoFault; finished = finishedIf s (s .marks .finished); timer = NoTimer }
 eventsOf s Nothing = quiet s
 
 -- ---- the call
 
 -- 30 FileChanged: "not Idle, lent length not S"
 unfoldable pub changed : State → ℕ → Bool
-changed s lent = pick (isIdle (s .step)) false (pick (eqb lent (s .fixed .size)) false true)
+changed s lent = not (isIdle (s .step)) and not (eqb lent (s .fixed .size))
 
 abbrev pub refusedStep : State → Refusal → Stepped
 refusedStep s r = record { answer = Refused r; length = 0; events = quiet s; state = s }
@@ -226,14 +232,14 @@ abbrev pub bytesDue : State → List ℕ → Bool → List ℕ
 bytesDue s file expired = bytesFor s file (sendingOf s file (dueOf s expired))
 
 -- 31 OutTooSmall: "the PDU due is longer than the out buffer"
-unfoldable pub made : State → List ℕ → Due → ℕ → Stepped
-made s file d room =
+unfoldable pub performed : State → List ℕ → Due → ℕ → Stepped
+performed s file d room =
     let n = length (bytesFor s file (sendingOf s file d)) in
     pick (ltb room n) (refusedStep s OutTooSmall) (record { answer = Accepted; length = n; events = eventsOf s d; state = afterOf s file d })
 
 -- over the lent file, the expiry flag and the room of the out buffer
 unfoldable pub stepSpec : State → List ℕ → Bool → ℕ → Stepped
-stepSpec s file expired room = pick (changed s (length file)) (refusedStep s FileChanged) (made s file (dueOf s expired) room)
+stepSpec s file expired room = pick (changed s (length file)) (refusedStep s FileChanged) (performed s file (dueOf s expired) room)
 
 -- "After an accepted step the out buffer holds the PDU in front and its old bytes behind."
 unfoldable pub stepBytes : State → List ℕ → Bool → List ℕ → List ℕ

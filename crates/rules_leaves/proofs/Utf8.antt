@@ -8,8 +8,8 @@ use Prim.Native.Nat.{ℕ, suc, _≤_}
 use native.Mathlib.Omega.{arith}
 use borrow.Author.Tests.{lt-ltb, le-ltb, ltb-false}
 use lib.Dec.{ltb}
-use Rattle.basis.specs.Pick.{pick}
-use Rattle.basis.proofs.Pick.{cases}
+use Rattle.basis.specs.Pick.{pick, not}
+use Rattle.basis.proofs.Pick.{denied, both, cases}
 use Rattle.rules_leaves.specs.Utf8.{Range, _to_, forms, In, Fits, end, next, OneOf, here, there, Utf8, none, char, within, Due, wants, broken, begun, dueAfter, complete, isUtf8, Utf8Exactly, Utf8Cases}
 
 -- ---- the test of a range
@@ -18,10 +18,9 @@ in-within : (r : Range) (b : ℕ) → In r b → within r b ≡ true
 in-within (lo to hi) b i = rw (le-ltb b lo (i .0), le-ltb hi b (i .1))
 
 within-in : (r : Range) (b : ℕ) → within r b ≡ true → In r b
-within-in (lo to hi) b =
-    let P : Bool → Type 0 = λ v. v ≡ true → In (lo to hi) b in
-    cases P (ltb b lo) false (pick (ltb hi b) false true) (λ p e. absurd (false≢true e))
-    (λ p. cases P (ltb hi b) false true (λ q e. absurd (false≢true e)) (λ q e. (ltb-false b lo p, ltb-false hi b q)))
+within-in (lo to hi) b e =
+    let t = both (not (ltb b lo)) (not (ltb hi b)) e in
+    (ltb-false b lo (denied (ltb b lo) (t .0)), ltb-false hi b (denied (ltb hi b) (t .1)))
 
 -- ---- what the grammar derives, the test takes
 

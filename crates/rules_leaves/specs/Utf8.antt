@@ -6,7 +6,7 @@ use mathlib.Core.Bool.{Bool, true, false}
 use mathlib.Core.List.{List, [], _∷_, _++_, map, flatMap}
 use Prim.Native.Nat.{ℕ, _≤_}
 use lib.Dec.{ltb}
-use Rattle.basis.specs.Pick.{pick}
+use Rattle.basis.specs.Pick.{pick, _and_, not}
 
 -- %xLO-HI of the RFC's grammar: one byte from lo to hi
 infix 80 _to_
@@ -52,7 +52,7 @@ pub data Utf8 : List ℕ → Type 0 where
 -- ---- the test
 
 abbrev pub within : Range → ℕ → Bool
-within (lo to hi) b = pick (ltb b lo) false (pick (ltb hi b) false true)
+within (lo to hi) b = not (ltb b lo) and not (ltb hi b)
 
 -- what is due: the ranges that the character begun still wants, or that the byte begins none
 pub data Due : Type 0 where

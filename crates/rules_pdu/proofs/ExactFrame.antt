@@ -9,14 +9,14 @@ use native.Mathlib.Omega.{arith}
 use lib.ListN.{length, take, drop, take-append-drop, length-take, length-drop}
 use lib.Dec.{eqb, ltb}
 use borrow.Author.Tests.{eqb-true, ltb-false}
-use Rattle.basis.specs.Pick.{pick, flag}
+use Rattle.basis.specs.Pick.{_and_, not, flag}
 use Rattle.basis.specs.Bytes.{be, num, part, byte, numAt, Bytes}
-use Rattle.basis.proofs.Pick.{cases}
+use Rattle.basis.proofs.Pick.{denied, both, cases}
 use Rattle.rules_pdu.specs.Fields.{Field, nat, raw, wire}
 use Rattle.rules_pdu.specs.Numbers.{goodWidth, H, C}
 use Rattle.rules_leaves.specs.Checksum.{crc16}
 use Rattle.rules_pdu.specs.Layout.{byte0, byte3, headFields, headBytes, trailer}
-use Rattle.rules_pdu.specs.Reading.{bitIn, versionIn, crcIn, lengthIn, idWidthIn, seqWidthIn, endIn, crcAgrees, wellFramed, frameIn, framedIn, bodyIn}
+use Rattle.rules_pdu.specs.Reading.{bitIn, versionIn, crcIn, lengthIn, idWidthIn, seqWidthIn, endIn, crcAgrees, crcGood, wellFramed, frameIn, framedIn, bodyIn}
 use Rattle.rules_pdu.specs.PduLaws.{Fit, clearedHead, IsPdu, FrameExactly}
 use Rattle.types.specs.declared.Head.{Head}
 use Rattle.types.specs.declared.Frame.{Frame}
@@ -118,30 +118,22 @@ record Tests (s : List ℕ) : Type 0 where
   whole : length s ≡ endIn s
   checks : crcIn s ≡ true → (2 ≤ lengthIn s) × (crcAgrees s ≡ true)
 
-yes : (b x : Bool) → pick b x false ≡ true → (b ≡ true) × (x ≡ true)
-yes true x e = (refl, e)
-yes false x e = absurd (false≢true e)
-
-no : (b x : Bool) → pick b false x ≡ true → (b ≡ false) × (x ≡ true)
-no true x e = absurd (false≢true e)
-no false x e = (refl, e)
-
 tests : (s : List ℕ) → wellFramed s ≡ true → Tests s
-unfolding wellFramed
+unfolding wellFramed crcGood
 tests s t =
-    let a = no (ltb (length s) 4) _ t in
-    let b = yes (eqb (versionIn s) 1) _ (a .1) in
-    let c = yes (goodWidth (idWidthIn s)) _ (b .1) in
-    let d = yes (goodWidth (seqWidthIn s)) _ (c .1) in
-    let e = yes (eqb (length s) (endIn s)) _ (d .1) in
-    let f : crcIn s ≡ true → pick (ltb (lengthIn s) 2) false (crcAgrees s) ≡ true = λ x. rw x at (e .1) in
+    let a = both (not (ltb (length s) 4)) _ t in
+    let b = both (eqb (versionIn s) 1) _ (a .1) in
+    let c = both (goodWidth (idWidthIn s)) _ (b .1) in
+    let d = both (goodWidth (seqWidthIn s)) _ (c .1) in
+    let e = both (eqb (length s) (endIn s)) _ (d .1) in
+    let f : crcIn s ≡ true → (not (ltb (lengthIn s) 2) and crcAgrees s) ≡ true = λ x. rw x at (e .1) in
     record {
-      long = ltb-false (length s) 4 (a .0);
+      long = ltb-false (length s) 4 (denied (ltb (length s) 4) (a .0));
       version = eqb-true (versionIn s) 1 (b .0);
       id-width = c .0;
       seq-width = d .0;
       whole = eqb-true (length s) (endIn s) (e .0);
-      checks = λ x. let g = no (ltb (lengthIn s) 2) (crcAgrees s) (f x) in (ltb-false (lengthIn s) 2 (g .0), g .1);
+      checks = λ x. let g = both (not (ltb (lengthIn s) 2)) (crcAgrees s) (f x) in (ltb-false (lengthIn s) 2 (denied (ltb (lengthIn s) 2) (g .0)), g .1);
     }
 
 -- the header's first byte from its bits

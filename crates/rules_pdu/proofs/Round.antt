@@ -12,15 +12,15 @@ use lib.ListN.{length, take, drop, length-append}
 use lib.Dec.{eqb, leb, ltb}
 use lib.Seq.{take-append-seam, drop-append-seam}
 use borrow.Author.Tests.{eqb-true, ltb-false, eq-eqb, le-leb, le-ltb}
-use Rattle.basis.specs.Pick.{pick, flag}
+use Rattle.basis.specs.Pick.{_and_, not, flag}
 use Rattle.basis.specs.Bytes.{be, part, byte, numAt}
-use Rattle.basis.proofs.Pick.{cases, flag-lt, eqb-flag}
+use Rattle.basis.proofs.Pick.{wherever, cases, flag-lt, eqb-flag}
 use Rattle.basis.proofs.Bytes.{length-be, num-be}
 use Rattle.rules_pdu.specs.Fields.{Field, nat, raw, wire}
 use Rattle.rules_pdu.specs.Numbers.{goodWidth, H, F, C, isLarge}
 use Rattle.rules_leaves.specs.Checksum.{crc16}
 use Rattle.rules_pdu.specs.Layout.{Said, metadata, fileData, eof, ackFinished, byte0, byte3, headFields, headBytes, layout, trailer, pduBytes, isFileData, Pdu, bodyBytes, encode, pduLength}
-use Rattle.rules_pdu.specs.Reading.{bitIn, versionIn, fileDataIn, toSenderIn, unacknowledgedIn, crcIn, largeIn, lengthIn, idWidthIn, seqWidthIn, headIn, hIn, endIn, crcAgrees, wellFramed, bodyEnd, bodyIn}
+use Rattle.rules_pdu.specs.Reading.{bitIn, versionIn, fileDataIn, toSenderIn, unacknowledgedIn, crcIn, largeIn, lengthIn, idWidthIn, seqWidthIn, headIn, hIn, endIn, crcAgrees, crcGood, wellFramed, bodyEnd, bodyIn}
 use Rattle.rules_pdu.specs.Decoding.{metadataIn, dataIn, eofIn, ackFinishedIn, saidIn, withHead, decode, isEofIn, fileDataOf}
 use Rattle.rules_pdu.specs.PduLaws.{Fit, Sayable, RoundTrip, SameBytes, CrcChecks, LengthAgrees, HeadersDiffer, WidthsExactly}
 use Rattle.types.specs.declared.Head.{Head}
@@ -228,17 +228,17 @@ module _ {s : List ℕ} {h : Head} {filedata tosender : Bool} {body : List ℕ} 
   crc-agrees e = rw (← end-read) (eq-eqb _ _ (rw (p .closes) at (crc-over (p .front) (h .crc) e)))
 
   pub well-framed-read : wellFramed s ≡ true
-  unfolding wellFramed
+  unfolding wellFramed crcGood
   well-framed-read =
       let w = whole in
       let a : ltb (length s) 4 ≡ false = le-ltb (length s) 4 (omega arith) in
       let i = ap goodWidth (id-width-read (p .opens)) ∙ p .opens .fit .id-width in
       let q = ap goodWidth (seq-width-read (p .opens)) ∙ p .opens .fit .seq-width in
       simp (a, eq-eqb _ _ (version-read (p .opens)), i, q, eq-eqb _ _ end-read, crc-read (p .opens))
-      (cases (λ (b : Bool). b ≡ true) (h .crc) (pick (ltb (lengthIn s) 2) false (crcAgrees s)) true
+      (wherever (h .crc) (not (ltb (lengthIn s) 2) and crcAgrees s)
       (λ c. let z = ap C c in
       let b : ltb (lengthIn s) 2 ≡ false = rw length-read (le-ltb (length body + C (h .crc)) 2 (omega arith)) in
-      rw (b, crc-agrees c) refl) (λ c. refl))
+      rw (b, crc-agrees c) refl))
 
 -- ---- what we write is a PDU
 

@@ -7,7 +7,7 @@ use mathlib.Core.Option.{Option, none, some}
 use Prim.Native.Nat.{ℕ, _+_, _/_, _%_}
 use lib.ListN.{length, drop}
 use lib.Dec.{eqb, leb}
-use Rattle.basis.specs.Pick.{pick}
+use Rattle.basis.specs.Pick.{pick, _and_, not}
 use Rattle.basis.specs.Bytes.{part, byte, numAt}
 use Rattle.rules_pdu.specs.Numbers.{F}
 use Rattle.rules_pdu.specs.Layout.{Said, metadata, fileData, eof, ackFinished, Pdu}
@@ -56,7 +56,7 @@ decode s = pick (wellFramed s) (pick (toSenderIn s) none (withHead (headIn s) (s
 
 -- is it an EOF: a directive, and its code
 unfoldable pub isEofIn : List ℕ → Bool
-isEofIn s = pick (fileDataIn s) false (eqb (byte s (hIn s)) 4)
+isEofIn s = not (fileDataIn s) and eqb (byte s (hIn s)) 4
 
 abbrev pub dataOfSaid : Said → Option (ℕ × List ℕ)
 dataOfSaid (metadata closure type n a b) = none

@@ -3,18 +3,18 @@
 use mathlib.Core.Bool.{Bool, true, false}
 use Prim.Native.Nat.{ℕ, _+_, _-_, _*_, _%_, _^_, _<_, min}
 use lib.Dec.{eqb, ltb}
-use Rattle.basis.specs.Pick.{pick, flag}
+use Rattle.basis.specs.Pick.{pick, _and_, _or_, flag}
 use Rattle.types.specs.declared.EntityId.{EntityId}
 use Rattle.types.specs.declared.TransactionSeqNum.{TransactionSeqNum}
 use Rattle.types.specs.declared.Head.{Head}
 
 -- "width 1, 2, 4 or 8 bytes"
 unfoldable pub goodWidth : ℕ → Bool
-goodWidth w = pick (eqb w 1) true (pick (eqb w 2) true (pick (eqb w 4) true (eqb w 8)))
+goodWidth w = eqb w 1 or eqb w 2 or eqb w 4 or eqb w 8
 
 -- ".. value fitting the width"
 unfoldable pub fits : ℕ → ℕ → Bool
-fits w v = pick (goodWidth w) (ltb v (2 ^ (8 * w))) false
+fits w v = goodWidth w and ltb v (2 ^ (8 * w))
 
 -- "Both ids take the larger of the two widths."
 unfoldable pub larger : ℕ → ℕ → ℕ

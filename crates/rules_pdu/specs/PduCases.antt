@@ -10,7 +10,7 @@ use Rattle.basis.specs.Bytes.{be, num, part, byte, numAt}
 use Rattle.rules_pdu.specs.Numbers.{goodWidth}
 use Rattle.rules_leaves.specs.Checksum.{crc16, crc16Byte}
 use Rattle.rules_pdu.specs.Layout.{metadata, fileData, eof, ackFinished, Pdu, headBytes, trailer, pduBytes, bodyBytes, encode}
-use Rattle.rules_pdu.specs.Reading.{bitIn, versionIn, fileDataIn, toSenderIn, unacknowledgedIn, crcIn, largeIn, lengthIn, idWidthIn, seqWidthIn, headIn, crcAgrees, wellFramed, frameIn, framedIn, bodyIn, reserved, areTlvs, finishedParams, finishedIn, ackIn, requestCount, nakIn, keepAliveIn, directiveIn, bodyOf}
+use Rattle.rules_pdu.specs.Reading.{bitIn, versionIn, fileDataIn, toSenderIn, unacknowledgedIn, crcIn, largeIn, lengthIn, idWidthIn, seqWidthIn, headIn, crcAgrees, crcGood, wellFramed, frameIn, framedIn, bodyIn, reserved, areTlvs, finishedParams, finishedIn, ackIn, requestCount, nakIn, keepAliveIn, directiveIn, bodyOf}
 use Rattle.rules_pdu.specs.Decoding.{metadataIn, dataIn, eofIn, ackFinishedIn, saidIn, decode}
 use Rattle.types.specs.declared.Head.{Head}
 use Rattle.types.specs.declared.Framed.{Framed}
@@ -58,7 +58,7 @@ unfolding be headBytes trailer pduBytes bodyBytes encode crc16 crc16Byte
 written = refl
 
 pub read : map decode onTheLink ≡ map some sent
-unfolding num part byte numAt goodWidth bitIn versionIn fileDataIn toSenderIn unacknowledgedIn crcIn largeIn lengthIn idWidthIn seqWidthIn headIn bodyIn crcAgrees wellFramed metadataIn dataIn eofIn ackFinishedIn saidIn decode crc16 crc16Byte
+unfolding num part byte numAt goodWidth bitIn versionIn fileDataIn toSenderIn unacknowledgedIn crcIn largeIn lengthIn idWidthIn seqWidthIn headIn bodyIn crcAgrees crcGood wellFramed metadataIn dataIn eofIn ackFinishedIn saidIn decode crc16 crc16Byte
 read = refl
 
 -- what is no sender's PDU: M1 whose second name ends behind the body; M4 with a byte more; M8 with subtype 0, and towards the sender;
@@ -74,7 +74,7 @@ noPdu =
     ∷ []
 
 pub unread : map decode noPdu ≡ map (λ (s : List ℕ). none) noPdu
-unfolding num part byte numAt goodWidth bitIn versionIn fileDataIn toSenderIn unacknowledgedIn crcIn largeIn lengthIn idWidthIn seqWidthIn headIn bodyIn crcAgrees wellFramed metadataIn dataIn eofIn ackFinishedIn saidIn decode
+unfolding num part byte numAt goodWidth bitIn versionIn fileDataIn toSenderIn unacknowledgedIn crcIn largeIn lengthIn idWidthIn seqWidthIn headIn bodyIn crcAgrees crcGood wellFramed metadataIn dataIn eofIn ackFinishedIn saidIn decode
 unread = refl
 
 -- ---- deliveries, and what each comes to
@@ -150,5 +150,5 @@ deliveries =
     ∷ []
 
 pub delivered : map (λ (d : List ℕ × Body). comesTo (d .0)) deliveries ≡ map (λ (d : List ℕ × Body). d .1) deliveries
-unfolding num part byte numAt goodWidth bitIn versionIn fileDataIn toSenderIn unacknowledgedIn crcIn largeIn lengthIn idWidthIn seqWidthIn headIn bodyIn crcAgrees wellFramed frameIn framedIn crc16 crc16Byte reserved areTlvs finishedParams finishedIn ackIn requestCount nakIn keepAliveIn directiveIn bodyOf
+unfolding num part byte numAt goodWidth bitIn versionIn fileDataIn toSenderIn unacknowledgedIn crcIn largeIn lengthIn idWidthIn seqWidthIn headIn bodyIn crcAgrees crcGood wellFramed frameIn framedIn crc16 crc16Byte reserved areTlvs finishedParams finishedIn ackIn requestCount nakIn keepAliveIn directiveIn bodyOf
 delivered = refl

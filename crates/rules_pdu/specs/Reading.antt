@@ -7,7 +7,7 @@ use mathlib.Core.Option.{Option, none, some}
 use Prim.Native.Nat.{ℕ, zero, suc, _+_, _-_, _*_, _/_, _%_}
 use lib.ListN.{length, take, drop}
 use lib.Dec.{eqb, leb, ltb}
-use Rattle.basis.specs.Pick.{pick}
+use Rattle.basis.specs.Pick.{pick, _and_, _or_, not}
 use Rattle.basis.specs.Bytes.{part, byte, numAt}
 use Rattle.rules_pdu.specs.Numbers.{goodWidth, H, F, C}
 use Rattle.rules_leaves.specs.Checksum.{crc16}
@@ -78,18 +78,19 @@ endIn s = hIn s + lengthIn s
 unfoldable pub crcAgrees : List ℕ → Bool
 crcAgrees s = eqb (numAt s (endIn s - 2) 2) (crc16 (take (endIn s - 2) s))
 
--- "Another version or width, a length not H plus the data field length .. is Malformed"; with the CRC flag, a data field that has no room for it too
+-- with the CRC flag a data field without room for the CRC is wrong too
+unfoldable pub crcGood : List ℕ → Bool
+crcGood s = not (crcIn s) or not (ltb (lengthIn s) 2) and crcAgrees s
+
+-- "Another version or width, a length not H plus the data field length .. is Malformed"; and the CRC
 unfoldable pub wellFramed : List ℕ → Bool
 wellFramed s =
-    pick (ltb (length s) 4) false
-    (pick (eqb (versionIn s) 1)
-    (pick (goodWidth (idWidthIn s))
-    (pick (goodWidth (seqWidthIn s))
-    (pick (eqb (length s) (endIn s))
-    (pick (crcIn s)
-    (pick (ltb (lengthIn s) 2) false (crcAgrees s))
-    true)
-    false) false) false) false)
+    not (ltb (length s) 4)
+    and eqb (versionIn s) 1
+    and goodWidth (idWidthIn s)
+    and goodWidth (seqWidthIn s)
+    and eqb (length s) (endIn s)
+    and crcGood s
 
 -- the body: the data field without its CRC
 abbrev pub bodyEnd : List ℕ → ℕ
@@ -108,7 +109,7 @@ bodyIn s = part s (hIn s) (bodyEnd s - hIn s)
 
 -- "Conditions 12 and 13 are reserved: Malformed"
 unfoldable pub reserved : ℕ → Bool
-reserved condition = pick (eqb condition 12) true (eqb condition 13)
+reserved condition = eqb condition 12 or eqb condition 13
 
 -- 5 Finished: "condition 4, spare 1, delivery 1, file status 2; then TLVs of type 1 or 6, each length closing inside the body"
 

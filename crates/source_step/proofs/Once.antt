@@ -10,7 +10,7 @@ use lib.ListN.{length}
 use borrow.Author.Tests.{leb-false}
 use Rattle.basis.proofs.Pick.{cases}
 use Rattle.rules_pdu.specs.Layout.{writtenOf}
-use Rattle.rules.specs.Step.{actionFor, faultDue, ackExpired, checkExpired, dueAt, eofOwed, dueOf, sendingOf, bytesFor, afterOf, eventsOf, made}
+use Rattle.rules.specs.Step.{actionFor, faultDue, ackExpired, checkExpired, dueAt, eofOwed, dueOf, sendingOf, bytesFor, afterOf, eventsOf, performed}
 use Rattle.types.specs.declared.State.{State}
 use Rattle.types.specs.declared.TransactionStep.{TransactionStep}
 use Rattle.types.specs.declared.TransactionStep.the-variants.{Idle, SendingMetadata, SendingFileData, SendingEof, WaitingForEofAck, WaitingForFinished, Closing}
@@ -44,11 +44,11 @@ module _ (s : State) (file : List ℕ) (d : Due) (p : Sending) (out : List ℕ) 
   said-of = rw sent at said
 
   pub made-short : w ≡ Short → steppedBy s (refusedBy OutTooSmall) ≡ made s file d (length out)
-  unfolding made
+  unfolding performed
   made-short e = on-short (bytesFor s file (sendingOf s file d)) out _ _ (sym e ∙ said-of)
 
   pub made-wrote : (n : ℕ) → w ≡ Wrote n → steppedBy s (acceptedBy d (eofIn p) n) ≡ made s file d (length out)
-  unfolding made
+  unfolding performed
   made-wrote n e =
       rw (sent, after-once s file d)
       (on-wrote (bytesFor s file (sendingOf s file d)) out n _

@@ -10,7 +10,7 @@ use types::Written;
 ghost use mathlib.Core.Path.{_≡_};
 ghost use lib.ListN.{length};
 ghost use Rattle.basis.specs.Laid.{inFront};
-ghost use Rattle.rules.specs.Step.{changed, refusedStep, sendingOf, bytesFor, made, stepSpec, stepBytes};
+ghost use Rattle.rules.specs.Step.{changed, refusedStep, sendingOf, bytesFor, performed, stepSpec, stepBytes};
 ghost use Rattle.source_step.specs.Once.{Countable};
 ghost use Rattle.source_step.specs.Outcomes.{refusedBy, acceptedBy, steppedBy};
 

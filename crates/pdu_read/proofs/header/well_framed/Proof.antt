@@ -47,46 +47,17 @@ returns-5 c =
     let v = i .before .before in
     rw (← (e .pdu-end .ensures .0), ← (n .good-seq-width .ensures), ← (i .good-id-width .ensures), ← (v .version .ensures)) (search picks depth 12)
 
-has-crc-requires : tie.Need-has-crc-requires
-has-crc-requires c κs = search needs
-
-data-length-requires : tie.Need-data-length-requires
-data-length-requires c κs = search needs
+crc-good-requires : tie.Need-crc-good-requires
+crc-good-requires c κs = search needs
 
 returns-6 : tie.Need-returns-6
 unfolding wellFramed
 returns-6 c =
-    let d = c .before in
-    let h = d .before .before in
-    let e = h .before .before in
+    let e = c .before .before in
     let n = e .before .before in
     let i = n .before .before in
     let v = i .before .before in
-    rw (← (e .pdu-end .ensures .0), ← (d .data-length .ensures .0), ← (h .has-crc .ensures), ← (n .good-seq-width .ensures), ← (i .good-id-width .ensures), ← (v .version .ensures)) (search picks depth 12)
-
-crc-agrees-requires : tie.Need-crc-agrees-requires
-crc-agrees-requires c κs = search needs
-
-returns-7 : tie.Need-returns-7
-unfolding wellFramed
-returns-7 c =
-    let d = c .before .before in
-    let h = d .before .before in
-    let e = h .before .before in
-    let n = e .before .before in
-    let i = n .before .before in
-    let v = i .before .before in
-    rw (← (c .crc-agrees .ensures), ← (e .pdu-end .ensures .0), ← (d .data-length .ensures .0), ← (h .has-crc .ensures), ← (n .good-seq-width .ensures), ← (i .good-id-width .ensures), ← (v .version .ensures)) (search picks depth 12)
-
-returns-8 : tie.Need-returns-8
-unfolding wellFramed
-returns-8 c =
-    let h = c .before in
-    let e = h .before .before in
-    let n = e .before .before in
-    let i = n .before .before in
-    let v = i .before .before in
-    rw (← (h .has-crc .ensures), ← (e .pdu-end .ensures .0), ← (n .good-seq-width .ensures), ← (i .good-id-width .ensures), ← (v .version .ensures)) (search picks depth 12)
+    rw (← (c .crc-good .ensures), ← (e .pdu-end .ensures .0), ← (n .good-seq-width .ensures), ← (i .good-id-width .ensures), ← (v .version .ensures)) (search picks depth 12)
 
 pub well-framed-spec : {M : Type 1} → statement M
 well-framed-spec =
@@ -101,9 +72,5 @@ well-framed-spec =
     returns-4
     pdu-end-requires
     returns-5
-    has-crc-requires
-    data-length-requires
-    returns-6
-    crc-agrees-requires
-    returns-7
-    returns-8)
+    crc-good-requires
+    returns-6)
