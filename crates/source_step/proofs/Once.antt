@@ -43,11 +43,11 @@ module _ (s : State) (file : List ℕ) (d : Due) (p : Sending) (out : List ℕ) 
   said-of : w ≡ writtenOf (bytesFor s file (sendingOf s file d)) out
   said-of = rw sent at said
 
-  pub made-short : w ≡ Short → steppedBy s (refusedBy OutTooSmall) ≡ made s file d (length out)
+  pub made-short : w ≡ Short → steppedBy s (refusedBy OutTooSmall) ≡ performed s file d (length out)
   unfolding performed
   made-short e = on-short (bytesFor s file (sendingOf s file d)) out _ _ (sym e ∙ said-of)
 
-  pub made-wrote : (n : ℕ) → w ≡ Wrote n → steppedBy s (acceptedBy d (eofIn p) n) ≡ made s file d (length out)
+  pub made-wrote : (n : ℕ) → w ≡ Wrote n → steppedBy s (acceptedBy d (eofIn p) n) ≡ performed s file d (length out)
   unfolding performed
   made-wrote n e =
       rw (sent, after-once s file d)

@@ -9,40 +9,33 @@ use types::TimerEvent;
 use types::TransactionId;
 ghost use mathlib.Core.Path.{_≡_};
 ghost use mathlib.Core.Bool.{false};
-ghost use Rattle.rules.specs.Step.{events, quiet, finishedIf, ackTimer, eofTimer, eofFinished, eventsOf};
-ghost use Rattle.types.specs.declared.FaultEvent.the-variants.{NoFault, Fault};
+ghost use Rattle.rules.specs.Step.{idOf, quiet, finishedIf, ackTimer, eofTimer, eofFinished, eventsOf};
+ghost use Rattle.types.specs.declared.Due.the-variants.{Metadata, Close};
+ghost use Rattle.types.specs.declared.FaultEvent.the-variants.{Fault};
 ghost use Rattle.types.specs.declared.FinishedEvent.the-variants.{NotFinished};
 ghost use Rattle.types.specs.declared.TimerEvent.the-variants.{NoTimer};
 
-fn noting(
-    s: State,
-    transaction: bool,
-    eofsent: bool,
-    fault: FaultEvent,
-    finished: FinishedEvent,
-    timer: TimerEvent,
-) -> Events
-    ensures { λ r. ⌜ r ≡ events s transaction eofsent fault finished timer ⌝ }
+fn id_of(s: State) -> TransactionId
+    ensures { λ r. ⌜ r ≡ idOf s ⌝ }
 {
     let source = s.fixed.head.source;
     let number = s.fixed.head.number;
-    let id = TransactionId(source, number);
-    Events {
-        id: id,
-        transaction: transaction,
-        eofsent: eofsent,
-        fault: fault,
-        finished: finished,
-        timer: timer,
-    }
+    TransactionId(source, number)
 }
 
+// None.
 pub fn quiet(s: State) -> Events
     ensures { λ r. ⌜ r ≡ quiet s ⌝ }
 {
-    let no_fault = FaultEvent::NoFault;
-    let not_finished = FinishedEvent::NotFinished;
-    noting(s, false, false, no_fault, not_finished, TimerEvent::NoTimer)
+    let id = id_of(s);
+    Events {
+        id: id,
+        transaction: false,
+        eofsent: false,
+        fault: FaultEvent::NoFault,
+        finished: FinishedEvent::NotFinished,
+        timer: TimerEvent::NoTimer,
+    }
 }
 
 // A finished event, if the configuration's flag is set.
@@ -95,19 +88,50 @@ fn eof_finished(s: State) -> FinishedEvent
     notice_of_completion(s, unreported)
 }
 
-fn eof_sent(s: State, fault: FaultEvent, finished: FinishedEvent, timer: TimerEvent) -> Events
-    ensures { λ r. ⌜ r ≡ events s false (s .fixed .eofsent) fault finished timer ⌝ }
+// 3: the transaction.
+fn begun(s: State) -> Events
+    ensures { λ r. ⌜ r ≡ eventsOf s Metadata ⌝ }
 {
-    noting(s, false, s.fixed.eofsent, fault, finished, timer)
+    let id = id_of(s);
+    Events {
+        id: id,
+        transaction: true,
+        eofsent: false,
+        fault: FaultEvent::NoFault,
+        finished: FinishedEvent::NotFinished,
+        timer: TimerEvent::NoTimer,
+    }
+}
+
+// An EOF left.
+fn eof_sent(s: State, fault: FaultEvent, finished: FinishedEvent, timer: TimerEvent) -> Events
+    ensures { λ r. ⌜ r ≡ record { id = idOf s; transaction = false; eofsent = s .fixed .eofsent; fault = fault; finished = finished; timer = timer } ⌝ }
+{
+    let id = id_of(s);
+    Events {
+        id: id,
+        transaction: false,
+        eofsent: s.fixed.eofsent,
+        fault: fault,
+        finished: finished,
+        timer: timer,
+    }
 }
 
 // 8: the Finished PDU's values.
 fn closed(s: State) -> Events
-    ensures { λ r. ⌜ r ≡ events s false false NoFault (finishedIf s (s .marks .finished)) NoTimer ⌝ }
+    ensures { λ r. ⌜ r ≡ eventsOf s Close ⌝ }
 {
     let finished = notice_of_completion(s, s.marks.finished);
-    let no_fault = FaultEvent::NoFault;
-    noting(s, false, false, no_fault, finished, TimerEvent::NoTimer)
+    let id = id_of(s);
+    Events {
+        id: id,
+        transaction: false,
+        eofsent: false,
+        fault: FaultEvent::NoFault,
+        finished: finished,
+        timer: TimerEvent::NoTimer,
+    }
 }
 
 fn fault_event(s: State, action: u8, condition: u8) -> FaultEvent
@@ -122,11 +146,18 @@ fn fault_event(s: State, action: u8, condition: u8) -> FaultEvent
 
 // A fault that sends nothing: ignore or abandon.
 fn fault_only(s: State, action: u8, condition: u8) -> Events
-    ensures { λ r. ⌜ r ≡ events s false false (Fault action condition (s .file .progress)) NotFinished NoTimer ⌝ }
+    ensures { λ r. ⌜ r ≡ record { id = idOf s; transaction = false; eofsent = false; fault = Fault action condition (s .file .progress); finished = NotFinished; timer = NoTimer } ⌝ }
 {
     let fault = fault_event(s, action, condition);
-    let not_finished = FinishedEvent::NotFinished;
-    noting(s, false, false, fault, not_finished, TimerEvent::NoTimer)
+    let id = id_of(s);
+    Events {
+        id: id,
+        transaction: false,
+        eofsent: false,
+        fault: fault,
+        finished: FinishedEvent::NotFinished,
+        timer: TimerEvent::NoTimer,
+    }
 }
 
 pub fn events_of(s: State, d: Due) -> Events
@@ -134,12 +165,11 @@ pub fn events_of(s: State, d: Due) -> Events
 {
     let no_fault = FaultEvent::NoFault;
     let not_finished = FinishedEvent::NotFinished;
-    let no_timer = TimerEvent::NoTimer;
     let ack = TimerEvent::AckTimer;
     match d {
         Due::CancelEof => eof_sent(s, no_fault, not_finished, ack_timer(s)),
         Due::Repair => quiet(s),
-        Due::Metadata => noting(s, true, false, no_fault, not_finished, no_timer),
+        Due::Metadata => begun(s),
         Due::Data => quiet(s),
         Due::NoErrorEof => eof_sent(s, no_fault, eof_finished(s), eof_timer(s)),
         Due::EofAgain => eof_sent(s, no_fault, not_finished, ack),

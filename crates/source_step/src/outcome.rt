@@ -62,7 +62,7 @@ fn changed(s: State, lent: usize) -> bool
 // The PDU due is emitted, or refused as OutTooSmall with nothing written.
 fn made(s: State, file: &[u8], d: Due, out: &mut [u8]) -> Outcome
     requires { ⌜ Countable s d ⌝ }
-    ensures { λ r. ⌜ (steppedBy s r ≡ made s (now (file .entry)) d (length (now (out .entry)))) × Countable s (r .due) ⌝ }
+    ensures { λ r. ⌜ (steppedBy s r ≡ performed s (now (file .entry)) d (length (now (out .entry)))) × Countable s (r .due) ⌝ }
     ensures { λ r. ⌜ now (out .exit) ≡ inFront (bytesFor s (now (file .entry)) (sendingOf s (now (file .entry)) d)) (now (out .entry)) ⌝ }
 {
     let p = source_due::sending::sending_of(s, file, d);

@@ -21,8 +21,8 @@ quiet-requires c κs = search needs
 enum-told-3 : tie.Need-enum-told-3
 enum-told-3 c = search needs
 
-noting-requires : tie.Need-noting-requires
-noting-requires c κs = search needs
+begun-requires : tie.Need-begun-requires
+begun-requires c κs = search needs
 
 enum-told-4 : tie.Need-enum-told-4
 enum-told-4 c = search needs
@@ -91,7 +91,7 @@ returns-2 : tie.Need-returns-2
 returns-2 c = rw (c .quiet .ensures, c .before .enum-told2 .given .1)
 
 returns-3 : tie.Need-returns-3
-returns-3 c = rw (c .noting .ensures, c .before .enum-told3 .given .1)
+returns-3 c = rw (c .begun .ensures, c .before .enum-told3 .given .1)
 
 returns-4 : tie.Need-returns-4
 returns-4 c = rw (c .quiet2 .ensures, c .before .enum-told4 .given .1)
@@ -127,7 +127,7 @@ events-of-spec =
     enum-told-2
     quiet-requires
     enum-told-3
-    noting-requires
+    begun-requires
     enum-told-4
     quiet-requires-2
     enum-told-5
