@@ -59,7 +59,7 @@ idle-mark : (s : State) → s ≡ idle (s .number) → s .marks .cancelled ≡ f
 unfolding idle
 idle-mark s e = ap (λ (t : State). t .marks .cancelled) e
 
-under : (k : TransactionStep) (s : State) → At k s → s .marks .cancelled ≡ true → Under s
+pub under : (k : TransactionStep) (s : State) → At k s → s .marks .cancelled ≡ true → Under s
 under Idle s h c = absurd (true≢false (sym c ∙ idle-mark s h))
 under SendingMetadata s h c = h .0
 under SendingFileData s h c = h .0

@@ -30,7 +30,7 @@ abbrev taken : Answer → Bool
 taken Accepted = true
 taken (Refused r) = false
 
-refused≢accepted : (r : Refusal) → Refused r ≡ Accepted → ⊥
+pub refused≢accepted : (r : Refusal) → Refused r ≡ Accepted → ⊥
 refused≢accepted r e = false≢true (ap taken e)
 
 -- ---- put

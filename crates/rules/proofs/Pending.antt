@@ -57,7 +57,7 @@ module _ (q : Queue) (f : Formed q) (p : 0 < q .count) where
       record { size = simp (length-append, length-drop) (omega arith); used = omega arith }
 
   -- another request in the first place
-  pending-changed : (r : SegmentRequest) → pending (record { places = set (q .places) 0 r; count = q .count }) ≡ r ∷ pending (pop q)
+  pub pending-changed : (r : SegmentRequest) → pending (record { places = set (q .places) 0 r; count = q .count }) ≡ r ∷ pending (pop q)
   unfolding pending pop
   pending-changed r = go (q .places) (q .count) p (let z = f .size in let y = f .used in omega arith)
     where

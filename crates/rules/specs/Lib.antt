@@ -18,3 +18,5 @@ pub mod Events
 pub mod NumberMoves
 pub mod Expiry
 pub mod Makes
+pub mod Says
+pub mod Leaves

@@ -1,0 +1,169 @@
+-- The state that a call leaves, by the tests that its definition makes.
+-- Assumes nothing.
+use mathlib.Core.Path.{_≡_, refl, sym, ap, subst, _∙_}
+use mathlib.Core.Logic.{_⊎_, inl, inr}
+use mathlib.Core.Bool.{Bool, true, false, true≢false, false≢true}
+use mathlib.Core.List.{List, [], _∷_}
+use mathlib.Core.Option.{Option, none, some}
+use Prim.Native.Nat.{ℕ, _+_, _-_, _<_, _≤_, min}
+use native.Mathlib.Omega.{arith}
+use borrow.Author.Tests.{eqb-true, eqb-false, eq-eqb, le-leb, lt-leb}
+use lib.Dec.{eqb, leb, ltb}
+use lib.ListN.{length}
+use Rattle.basis.specs.Pick.{pick, _and_, not}
+use Rattle.basis.specs.Bytes.{Bytes}
+use Rattle.basis.proofs.Pick.{cases}
+use Rattle.rules_pdu.specs.Layout.{Said, eof}
+use Rattle.rules_pdu.specs.Decoding.{withHead, decode}
+use Rattle.rules.specs.States.{idle, toStep, emptyQueue}
+use Rattle.rules.specs.Queues.{pending, oldest, pop, served}
+use Rattle.rules.specs.Step.{eofOwed, dueOf, eofFor, nextLength, afterCancelEof, afterMetadata, onward, afterData, afterEof, afterOf, changed, stepSpec}
+use Rattle.rules.specs.Cancel.{mayCancel, userCancelled, cancelSpec, resetSpec, newSpec}
+use Rattle.rules.specs.Good.{At, Good}
+use Rattle.rules.specs.Says.{Applies, item-1, item-2, item-3, item-4, item-5, item-6-again, item-6-fault, item-7, item-8, item-9, Declared, cancels, ignores, abandons, once-cancelled, eofOfSent, named, pduOf}
+use Rattle.rules.specs.Leaves.{EmptyQueue, Cleared, Back, IdleCleared, AwaitsAck, Served, Left, StepLeft, CancelLeaves}
+use Rattle.types.specs.declared.EntityId.{EntityId}
+use Rattle.types.specs.declared.TransactionSeqNum.{TransactionSeqNum}
+use Rattle.types.specs.declared.State.{State}
+use Rattle.types.specs.declared.TransactionStep.{TransactionStep}
+use Rattle.types.specs.declared.TransactionStep.the-variants.{Idle, SendingFileData, SendingEof, WaitingForFinished}
+use Rattle.types.specs.declared.Due.{Due}
+use Rattle.types.specs.declared.Due.the-variants.{CancelEof, Repair, Metadata, Data, NoErrorEof, EofAgain, FaultCancel, FaultIgnore, FaultAbandon, Close, Nothing}
+use Rattle.types.specs.declared.Answer.the-variants.{Accepted}
+use Rattle.types.specs.declared.Cancelled.{Cancelled}
+use Rattle.rules.proofs.Pending.{Formed, pending-first, pending-changed}
+use Rattle.rules.proofs.Makes.{step-makes}
+use Rattle.rules.proofs.Good.{good-kept}
+use Rattle.rules.proofs.Applies.{due-applies}
+use Rattle.rules.proofs.Says.{lent-whole, step-taken, due-says}
+
+-- ---- Idle
+
+cleared-idle : (n : TransactionSeqNum) → Cleared (idle n)
+unfolding idle
+cleared-idle n =
+    record {
+      step = refl;
+      flags = (refl, refl, refl);
+      ids = (refl, refl, refl);
+      fixed = (refl, refl, refl, refl, refl, refl, refl, refl);
+      source = (refl, refl);
+      destination = (refl, refl);
+      file = (refl, refl, refl, refl);
+      queue = (refl, refl);
+      marks = (refl, refl, refl, refl, refl);
+      finished = (refl, refl, refl);
+    }
+
+back : (s : State) → Back s (idle (s .number))
+unfolding idle
+back s = (refl, cleared-idle (s .number))
+
+pub idle-cleared : IdleCleared
+unfolding idle newSpec resetSpec
+idle-cleared =
+    record {
+      new = λ n. (refl, cleared-idle n);
+      reset = back;
+      every = λ s g e. subst Cleared (sym (subst (λ (k : TransactionStep). At k s) e (g .here))) (cleared-idle (s .number));
+    }
+
+-- ---- a step
+
+module _ (s : State) (file : List ℕ) (g : Good s) where
+  after-cancel : Left s file CancelEof (afterOf s file CancelEof)
+  unfolding afterCancelEof eofFor
+  after-cancel = (
+    λ a. rw a (back s),
+    λ a. rw a (record { step = refl; same = (refl, refl, refl); progress = refl; kept = refl; count = (refl, refl); finished = (refl, refl) }, refl, refl, refl),
+  )
+
+  after-repair : 0 < s .queue .count → Left s file Repair (afterOf s file Repair)
+  unfolding served
+  after-repair n =
+      let q = s .queue in
+      let L = s .fixed .segment in
+      let r = oldest q in
+      let f : Formed q = record { size = g .queue .places; used = g .queue .used } in (
+        refl,
+        (refl, refl, refl),
+        refl,
+        refl,
+        rw (pending-first q f n)
+            (λ l. rw (le-leb (r .end - r .start) L l) refl, λ l. rw (lt-leb (r .end - r .start) L l) (pending-changed q f n (record { start = r .start + L; end = r .end }))),
+      )
+
+  after-metadata : Left s file Metadata (afterOf s file Metadata)
+  unfolding afterMetadata
+  after-metadata = go (eqb (s .fixed .size) 0) refl
+    where
+      go : (b : Bool) → eqb (s .fixed .size) 0 ≡ b → Left s file Metadata (pick b (toStep s SendingEof) (toStep s SendingFileData))
+      go true e = (λ z. refl, λ l. absurd (let z = eqb-true (s .fixed .size) 0 e in omega arith), (refl, refl, refl), refl, refl, refl)
+      go false e = (λ z. absurd (eqb-false (s .fixed .size) 0 e z), λ l. refl, (refl, refl, refl), refl, refl, refl)
+
+  after-data : Left s file Data (afterOf s file Data)
+  unfolding afterData
+  after-data = go (eqb (s .file .progress + nextLength s) (s .fixed .size)) refl
+    where
+      go : (b : Bool) → eqb (s .file .progress + nextLength s) (s .fixed .size) ≡ b
+          → Left s file Data (pick b (toStep (onward s (s .file .progress + nextLength s)) SendingEof) (onward s (s .file .progress + nextLength s)))
+      go true e = (refl, λ z. refl, λ n. absurd (n (eqb-true _ _ e)), (refl, refl, refl), refl, refl, refl)
+      go false e = (refl, λ z. absurd (eqb-false _ _ e z), λ n. refl, (refl, refl, refl), refl, refl, refl)
+
+  after-eof : changed s (length file) ≡ false → s .step ≡ SendingEof → Left s file NoErrorEof (afterOf s file NoErrorEof)
+  unfolding afterEof eofFor
+  after-eof u e = (
+    λ a c. rw (a, c) (back s),
+    λ a c. rw (a, c) (refl, (refl, refl, refl), refl, refl, refl),
+    λ a left k.
+        rw a
+        (record { step = refl; same = (refl, refl, refl); progress = refl; kept = rw (lent-whole s file u e) (cc k); count = (refl, refl); finished = (refl, refl) }, refl, refl, refl),
+  )
+
+  after-fault : (c : ℕ) (d : Due) → Declared s c d → Left s file d (afterOf s file d)
+  unfolding afterCancelEof eofFor
+  after-fault c _ (cancels e a) = (
+    λ u. rw u (back s),
+    λ u. rw u (record { step = refl; same = (refl, refl, refl); progress = refl; kept = refl; count = (refl, refl); finished = (refl, refl) }, refl, refl, (refl, refl)),
+  )
+  after-fault c _ (ignores e a) = (refl, refl, (refl, refl, refl, refl), refl, (refl, refl, refl), refl, refl)
+  after-fault c _ (abandons e a b) = back s
+  after-fault c _ (once-cancelled e) = back s
+
+  after-due : (expired : Bool) (d : Due) → changed s (length file) ≡ false → Applies s expired d → Left s file d (afterOf s file d)
+  after-due expired _ u (item-1 c o) = after-cancel
+  after-due expired _ u (item-2 n p) = after-repair p
+  after-due expired _ u (item-3 f e) = after-metadata
+  after-due expired _ u (item-4 f e) = after-data
+  after-due expired _ u (item-5 f e) = after-eof u e
+  after-due expired _ u (item-6-again f e x l) = (refl, refl, (refl, refl, refl, refl), refl, (refl, refl, refl), refl, refl)
+  after-due expired d u (item-6-fault f e x l k) = after-fault 1 d k
+  after-due expired d u (item-7 f e a x k) = after-fault 10 d k
+  after-due expired _ u (item-8 f e) = back s
+  after-due expired _ u (item-9 f w) = refl
+
+pub step-left : StepLeft
+step-left s file expired room g a =
+    rw (step-makes .done s file expired room a .0) (after-due s file g expired (dueOf s expired) (step-taken s file expired room a .unchanged) (due-applies s expired))
+
+-- ---- cancel
+
+-- a cancel that answers yes
+yes-state : (s : State) (source : EntityId) (number : TransactionSeqNum) → cancelSpec s source number .yes ≡ true → cancelSpec s source number .state ≡ userCancelled s
+unfolding cancelSpec
+yes-state s source number =
+    cases (λ (r : Cancelled). r .yes ≡ true → r .state ≡ userCancelled s) (mayCancel s source number) _ _ (λ m e. refl) (λ m e. absurd (false≢true e))
+
+cancel-due : (s : State) (expired : Bool) → dueOf (userCancelled s) expired ≡ CancelEof
+unfolding dueOf eofOwed
+cancel-due s expired = refl
+
+pub cancel-leaves : CancelLeaves
+cancel-leaves =
+    record {
+      fields = λ s source number e. rw (yes-state s source number e) (refl, refl, refl, (refl, refl), refl, (refl, refl, refl), refl, refl, refl, refl);
+      sends = λ s source number e g file expired out y a.
+          let t = cancelSpec s source number .state in
+          due-says .says t file expired out (good-kept .cancel s source number g) y a
+          ∙ rw (yes-state s source number e, cancel-due s expired) refl;
+    }

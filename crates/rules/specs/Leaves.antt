@@ -1,0 +1,143 @@
+-- The state that a call leaves, field by field: Idle, each case of a step, a cancel, a reset. The definitions' own helpers are not named here, so that a
+-- mistake in one of them shows. Proof: proofs/Leaves.antt.
+-- Assumes nothing.
+use mathlib.Core.Path.{_≡_}
+use mathlib.Core.Logic.{_↔_}
+use mathlib.Core.Bool.{Bool, true, false}
+use mathlib.Core.List.{List, [], _∷_}
+use mathlib.Core.Option.{some}
+use Prim.Native.Nat.{ℕ, _+_, _-_, _≤_, _<_, min}
+use lib.ListN.{length, replicate}
+use Rattle.basis.specs.Bytes.{Bytes}
+use Rattle.rules_pdu.specs.Layout.{Said, eof}
+use Rattle.rules_pdu.specs.Decoding.{decode}
+use Rattle.rules.specs.Queues.{pending}
+use Rattle.rules.specs.Step.{dueOf, stepSpec}
+use Rattle.rules.specs.Cancel.{cancelSpec, resetSpec, newSpec}
+use Rattle.rules.specs.Good.{Good}
+use Rattle.rules.specs.Says.{eofOfSent, named, pduOf}
+use Rattle.types.specs.declared.EntityId.{EntityId}
+use Rattle.types.specs.declared.TransactionSeqNum.{TransactionSeqNum}
+use Rattle.types.specs.declared.SegmentRequest.{SegmentRequest}
+use Rattle.types.specs.declared.Queue.{Queue}
+use Rattle.types.specs.declared.State.{State}
+use Rattle.types.specs.declared.TransactionStep.{TransactionStep}
+use Rattle.types.specs.declared.TransactionStep.the-variants.{Idle, SendingFileData, SendingEof, WaitingForEofAck, WaitingForFinished}
+use Rattle.types.specs.declared.Due.{Due}
+use Rattle.types.specs.declared.Due.the-variants.{CancelEof, Repair, Metadata, Data, NoErrorEof, EofAgain, FaultCancel, FaultIgnore, FaultAbandon, Close, Nothing}
+use Rattle.types.specs.declared.Answer.the-variants.{Accepted}
+
+-- ---- "Every way to Idle keeps only the sequence number."
+
+abbrev pub EmptyQueue : Queue → Type 0
+EmptyQueue q = (q .count ≡ 0) × (q .places ≡ replicate 64 (record { start = 0; end = 0 }))
+
+-- Idle, and nothing else kept
+pub record Cleared (t : State) : Type 0 where
+  pub step : t .step ≡ Idle
+  pub flags : let h = t .fixed .head in (h .unacknowledged ≡ false) × (h .crc ≡ false) × (h .large ≡ false)
+  pub ids : let h = t .fixed .head in (h .source ≡ (0, 0)) × (h .number ≡ (0, 0)) × (h .destination ≡ (0, 0))
+  pub fixed : let f = t .fixed in
+      (f .closure ≡ false) × (f .checksum ≡ 0) × (f .segment ≡ 0) × (f .size ≡ 0) × (f .limit ≡ 0) × (f .actions ≡ replicate 16 0) × (f .eofsent ≡ false) × (f .finished ≡ false)
+  pub source : (t .names .source ≡ replicate 255 0) × (t .names .sourcelen ≡ 0)
+  pub destination : (t .names .destination ≡ replicate 255 0) × (t .names .destinationlen ≡ 0)
+  pub file : let f = t .file in (f .progress ≡ 0) × (f .eof .condition ≡ 0) × (f .eof .sum ≡ 0) × (f .eof .size ≡ 0)
+  pub queue : EmptyQueue (t .queue)
+  pub marks : let m = t .marks in (m .cancelled ≡ false) × (m .owed ≡ false) × (m .condition ≡ 0) × (m .count ≡ 0) × (m .anomalies ≡ 0)
+  pub finished : let f = t .marks .finished in (f .condition ≡ 0) × (f .delivery ≡ 0) × (f .status ≡ 0)
+
+-- back to Idle
+abbrev pub Back : State → State → Type 0
+Back s t = (t .number ≡ s .number) × Cleared t
+
+-- PROMISE idle-cleared: a new handler and a reset one are Idle with the number, and every reachable state that is Idle has nothing else.
+pub record IdleCleared : Type 0 where
+  pub new : (n : TransactionSeqNum) → (newSpec n .number ≡ n) × Cleared (newSpec n)
+  pub reset : (s : State) → Back s (resetSpec s)
+  pub every : (s : State) → Good s → s .step ≡ Idle → Cleared s
+
+-- ---- what stays
+
+-- the transaction: its number, what the put fixed, the names
+abbrev pub Same : State → State → Type 0
+Same s t = (t .number ≡ s .number) × (t .fixed ≡ s .fixed) × (t .names ≡ s .names)
+
+-- the marks but for the expiry count and the owed EOF
+abbrev pub SameMarks : State → State → Type 0
+SameMarks s t =
+    (t .marks .cancelled ≡ s .marks .cancelled) × (t .marks .condition ≡ s .marks .condition)
+    × (t .marks .finished ≡ s .marks .finished) × (t .marks .anomalies ≡ s .marks .anomalies)
+
+-- ---- a step, by its case
+
+-- "Acknowledged: count 0, .. WaitingForEofAck": the EOF that left is kept, nothing is owed, and progress stays
+pub record AwaitsAck (s t : State) (left : Said) : Type 0 where
+  pub step : t .step ≡ WaitingForEofAck
+  pub same : Same s t
+  pub progress : t .file .progress ≡ s .file .progress
+  pub kept : left ≡ eof (t .file .eof .condition) (t .file .eof .sum) (t .file .eof .size)
+  pub count : (t .marks .count ≡ 0) × (t .marks .owed ≡ false)
+  pub finished : (t .marks .finished ≡ s .marks .finished) × (t .marks .anomalies ≡ s .marks .anomalies)
+
+-- "one PDU of the oldest request": it is gone with its last piece, else its rest stands there; the others stay behind it
+abbrev pub Served : ℕ → List SegmentRequest → List SegmentRequest → Type 0
+Served L [] after = ⊥
+Served L (r ∷ rs) after =
+    (r .end - r .start ≤ L → after ≡ rs) × (L < r .end - r .start → after ≡ record { start = r .start + L; end = r .end } ∷ rs)
+
+-- what the state t is after each case in the state s
+abbrev pub Left : State → List ℕ → Due → State → Type 0
+Left s file CancelEof t =
+    (s .fixed .head .unacknowledged ≡ true → Back s t)
+    × (s .fixed .head .unacknowledged ≡ false
+    → AwaitsAck s t (eofOfSent s file (s .marks .condition))
+    × (t .marks .cancelled ≡ s .marks .cancelled) × (t .marks .condition ≡ s .marks .condition) × (t .queue ≡ s .queue))
+Left s file Repair t =
+    (t .step ≡ s .step) × Same s t × (t .file ≡ s .file) × (t .marks ≡ s .marks) × Served (s .fixed .segment) (pending (s .queue)) (pending (t .queue))
+Left s file Metadata t =
+    (s .fixed .size ≡ 0 → t .step ≡ SendingEof)
+    × (0 < s .fixed .size → t .step ≡ SendingFileData)
+    × Same s t × (t .file ≡ s .file) × (t .queue ≡ s .queue) × (t .marks ≡ s .marks)
+Left s file Data t =
+    (t .file .progress ≡ s .file .progress + min (s .fixed .segment) (s .fixed .size - s .file .progress))
+    × (t .file .progress ≡ s .fixed .size → t .step ≡ SendingEof)
+    × (¬ (t .file .progress ≡ s .fixed .size) → t .step ≡ s .step)
+    × Same s t × (t .file .eof ≡ s .file .eof) × (t .queue ≡ s .queue) × (t .marks ≡ s .marks)
+Left s file NoErrorEof t =
+    (s .fixed .head .unacknowledged ≡ true → s .fixed .closure ≡ false → Back s t)
+    × (s .fixed .head .unacknowledged ≡ true → s .fixed .closure ≡ true
+    → (t .step ≡ WaitingForFinished) × Same s t × (t .file .progress ≡ s .file .progress) × (t .queue ≡ s .queue) × (t .marks ≡ s .marks))
+    × (s .fixed .head .unacknowledged ≡ false → (left : Said) → named s file NoErrorEof ≡ some left
+    → AwaitsAck s t left × (t .marks .cancelled ≡ s .marks .cancelled) × (t .marks .condition ≡ s .marks .condition) × (t .queue ≡ s .queue))
+Left s file EofAgain t =
+    (t .marks .count ≡ s .marks .count + 1)
+    × (t .marks .owed ≡ s .marks .owed) × SameMarks s t × (t .step ≡ s .step) × Same s t × (t .file ≡ s .file) × (t .queue ≡ s .queue)
+Left s file (FaultCancel c) t =
+    (s .fixed .head .unacknowledged ≡ true → Back s t)
+    × (s .fixed .head .unacknowledged ≡ false
+    → AwaitsAck s t (eofOfSent s file c) × (t .marks .cancelled ≡ true) × (t .marks .condition ≡ c) × EmptyQueue (t .queue))
+Left s file (FaultIgnore c) t =
+    (t .marks .count ≡ 0) × (t .marks .owed ≡ s .marks .owed) × SameMarks s t × (t .step ≡ s .step) × Same s t × (t .file ≡ s .file) × (t .queue ≡ s .queue)
+Left s file (FaultAbandon c) t = Back s t
+Left s file Close t = Back s t
+Left s file Nothing t = t ≡ s
+
+-- PROMISE step-leaves: an accepted step in a good state leaves what document 01 says of its case, and nothing else changes.
+abbrev pub StepLeft : Type 0
+StepLeft =
+    (s : State) (file : List ℕ) (expired : Bool) (room : ℕ) → Good s → stepSpec s file expired room .answer ≡ Accepted
+    → Left s file (dueOf s expired) (stepSpec s file expired room .state)
+
+-- ---- cancel
+
+-- PROMISE cancel-leaves: "User cancel: condition 15, mark set, queue emptied, EOF owed", all else equal; and the next unrefused step emits the EOF with
+-- condition 15, over progress.
+pub record CancelLeaves : Type 0 where
+  pub fields : (s : State) (source : EntityId) (number : TransactionSeqNum) → cancelSpec s source number .yes ≡ true → let t = cancelSpec s source number .state in
+      (t .marks .condition ≡ 15) × (t .marks .cancelled ≡ true) × (t .marks .owed ≡ true) × EmptyQueue (t .queue)
+      × (t .step ≡ s .step) × Same s t × (t .file ≡ s .file) × (t .marks .count ≡ s .marks .count)
+      × (t .marks .finished ≡ s .marks .finished) × (t .marks .anomalies ≡ s .marks .anomalies)
+  pub sends : (s : State) (source : EntityId) (number : TransactionSeqNum) → cancelSpec s source number .yes ≡ true → Good s
+      → (file : List ℕ) (expired : Bool) (out : List ℕ) → Bytes file → let t = cancelSpec s source number .state in
+      stepSpec t file expired (length out) .answer ≡ Accepted
+      → decode (pduOf t file expired out) ≡ some (record { head = s .fixed .head; said = eofOfSent s file 15 })
