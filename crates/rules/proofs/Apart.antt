@@ -10,7 +10,7 @@ use lib.ListN.{length, length-append}
 use Rattle.rules_pdu.specs.Decoding.{fileDataOf}
 use Rattle.rules.specs.Put.{putSpec}
 use Rattle.rules.specs.Tiles.{answers, weights}
-use Rattle.rules.specs.Runs.{Call, Event, made, after, seen, trace, Lends, BeforeEof, requests}
+use Rattle.rules.specs.Runs.{Call, Shown, went, after, shows, trace, Lends, BeforeEof, requests}
 use Rattle.rules.specs.Demand.{Transfer, onto}
 use Rattle.rules.specs.Companions.{BeginsAt, LiesBelow, Apart, ToldApart}
 use Rattle.types.specs.declared.State.{State}
@@ -39,12 +39,12 @@ module _ (w : Transfer) (c : Carries w) where
   begins p r (EofPdu e) l s h = absurd h
   begins p r (AckFinished k) l s h = absurd h
 
-abbrev ApartFrom : Transfer → State → List Event → Type 0
+abbrev ApartFrom : Transfer → State → List Shown → Type 0
 ApartFrom w s es = Apart (w .segment) (length (owedBy w s)) (s .file .progress) es
 
 module _ (w : Transfer) (c : Carries w) (cs : List Call) (ih : (t : State) → Inv w t → BeforeEof (trace cs t) → ApartFrom w t (trace cs t)) where
-  on-does : (s : State) → Inv w s → (d : Sending) (t : State) → DoesFrom w s d t → BeforeEof (made (some (bytesOf w d)) ∷ trace cs t)
-      → ApartFrom w s (made (some (bytesOf w d)) ∷ trace cs t)
+  on-does : (s : State) → Inv w s → (d : Sending) (t : State) → DoesFrom w s d t → BeforeEof (went (some (bytesOf w d)) ∷ trace cs t)
+      → ApartFrom w s (went (some (bytesOf w d)) ∷ trace cs t)
   on-does s i x y (Does.serves-one d t q p z m v j) f =
       rw (ap length q) (below w c (s .file .progress) d (sent-le w s i) v, subst (λ (n : ℕ). Apart (w .segment) (length (owedBy w t)) n (trace cs t)) m (ih t j (f .1)))
   on-does s i x y (Does.advances d t q u p z m j) f =
@@ -54,7 +54,7 @@ module _ (w : Transfer) (c : Carries w) (cs : List Call) (ih : (t : State) → I
       rw a (g .0, rw (g .1) (rw b at (ih t j (f .1))))
   on-does s i x y (Does.closes t q p) f = absurd (true≢false (sym (last-eof w (c .fit)) ∙ f .0))
 
-  on-call : (s : State) (e : Event) (t : State) → Inv w s → Moves w s e t → BeforeEof (e ∷ trace cs t) → ApartFrom w s (e ∷ trace cs t)
+  on-call : (s : State) (e : Shown) (t : State) → Inv w s → Moves w s e t → BeforeEof (e ∷ trace cs t) → ApartFrom w s (e ∷ trace cs t)
   on-call s x y i Moves.refuses f = ih s i f
   on-call s x y i (Moves.takes bytes t q p v m j) f =
       let L = w .segment in
@@ -67,7 +67,7 @@ module _ (w : Transfer) (c : Carries w) (cs : List Call) (ih : (t : State) → I
 apart : (w : Transfer) → Carries w → (cs : List Call) (s : State) → Inv w s → Lends (w .file) cs → BeforeEof (trace cs s) → ApartFrom w s (trace cs s)
 unfolding trace
 apart w c [] s i l f = tt
-apart w c (x ∷ cs) s i l f = on-call w c cs (λ t j b. apart w c cs t j (l .1) b) s (seen x s) (after x s) i (call-moves w s i x (l .0)) f
+apart w c (x ∷ cs) s i l f = on-call w c cs (λ t j b. apart w c cs t j (l .1) b) s (shows x s) (after x s) i (call-moves w s i x (l .0)) f
 
 pub told-apart : ToldApart
 told-apart h c q source destination file b z a cs l f =

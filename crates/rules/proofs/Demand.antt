@@ -14,7 +14,7 @@ use Rattle.rules_pdu.specs.Decoding.{decode}
 use Rattle.rules_pdu.specs.PduLaws.{Fit}
 use Rattle.rules.specs.Put.{putSpec}
 use Rattle.rules.specs.Tiles.{tiles, answers, weights}
-use Rattle.rules.specs.Runs.{Call, Event, turned, began, took, made, ended, after, seen, trace, behind, Lends, steps, isEof, BeforeEof, NoPut, requests, owed, R, firstPass, repairs}
+use Rattle.rules.specs.Runs.{Call, Shown, turned, began, took, went, ended, after, shows, trace, behind, Lends, stepCount, isEof, BeforeEof, NoPut, requests, repairsOwed, R, firstPass, repairs}
 use Rattle.rules.specs.Demand.{Transfer, meant, planned, lastly, eofStep, SoFar, AtEof, AtStep, ThirdDemand}
 use Rattle.types.specs.declared.SegmentRequest.{SegmentRequest}
 use Rattle.types.specs.declared.State.{State}
@@ -28,27 +28,27 @@ use Rattle.rules.proofs.Hold.{plan, At, Inv, planOf, owedBy, none-owed,
 use Rattle.rules.proofs.Stream.{Carries, last-read, all-read, small-no-eof, last-eof, planned-file, planned-within}
 use Rattle.rules.proofs.Begun.{put-passed, carries, begun, begun-step}
 
--- ---- what is kept from the state s over the events es to the state t
+-- ---- what is kept from the state s over what calls show, es, to the state t
 
-pub record Kept (w : Transfer) (s : State) (es : List Event) (t : State) : Type 0 where
+pub record Kept (w : Transfer) (s : State) (es : List Shown) (t : State) : Type 0 where
   pub inv : Inv w t
   pub no-put : NoPut es
   pub first : firstPass (w .segment) (length (owedBy w s)) es ++ map (bytesOf w) (planOf w t) ≡ map (bytesOf w) (planOf w s)
   pub repaired :
       repairs (w .segment) (length (owedBy w s)) es ++ map (bytesOf w) (owedBy w t)
-      ≡ map (bytesOf w) (owedBy w s) ++ map (bytesOf w) (owed (w .segment) es)
-  pub within : Within (w .segment) (length (w .file)) (owed (w .segment) es)
+      ≡ map (bytesOf w) (owedBy w s) ++ map (bytesOf w) (repairsOwed (w .segment) es)
+  pub within : Within (w .segment) (length (w .file)) (repairsOwed (w .segment) es)
   pub counted :
-      steps es + length (owedBy w t) + length (planOf w t)
+      stepCount es + length (owedBy w t) + length (planOf w t)
       ≡ length (owedBy w s) + length (planOf w s) + R (w .segment) es
 
 module _ (w : Transfer) (g : Fit (w .head)) (cs : List Call) (ih : (t : State) → Inv w t → BeforeEof (trace cs t) → Kept w t (trace cs t) (behind cs t)) where
   on-does :
       (s : State) (d : Sending) (t : State)
       → DoesFrom w s d t
-      → BeforeEof (made (some (bytesOf w d)) ∷ trace cs t)
-      → Kept w s (made (some (bytesOf w d)) ∷ trace cs t) (behind cs t)
-  unfolding firstPass repairs steps owed R
+      → BeforeEof (went (some (bytesOf w d)) ∷ trace cs t)
+      → Kept w s (went (some (bytesOf w d)) ∷ trace cs t) (behind cs t)
+  unfolding firstPass repairs stepCount repairsOwed R
   on-does s x y (Does.serves-one d t q p z m v j) f =
       let k = ih t j (f .1) in
       let kc = k .counted in
@@ -81,12 +81,12 @@ module _ (w : Transfer) (g : Fit (w .head)) (cs : List Call) (ih : (t : State) �
   on-does s x y (Does.closes t q p) f = absurd (true≢false (sym (last-eof w g) ∙ f .0))
 
   on-call :
-      (s : State) (e : Event) (t : State)
+      (s : State) (e : Shown) (t : State)
       → Inv w s
       → Moves w s e t
       → BeforeEof (e ∷ trace cs t)
       → Kept w s (e ∷ trace cs t) (behind cs t)
-  unfolding firstPass repairs steps owed R
+  unfolding firstPass repairs stepCount repairsOwed R
   on-call s x y i Moves.refuses f =
       let k = ih s i f in
       record { inv = k .inv; no-put = k .no-put; first = k .first; repaired = k .repaired; within = k .within; counted = k .counted }
@@ -103,8 +103,8 @@ module _ (w : Transfer) (g : Fit (w .head)) (cs : List Call) (ih : (t : State) �
         first = (rw lq at (k .first)) ∙ ap (map (bytesOf w)) p;
         repaired =
             (rw lq at (k .repaired))
-            ∙ rw (q, map-append (bytesOf w) (owedBy w s) (answers L (requests bytes)), map-append (bytesOf w) (answers L (requests bytes)) (owed L (trace cs t)), append-assoc);
-        within = within-append L (length (w .file)) (answers L (requests bytes)) (owed L (trace cs t)) v (k .within);
+            ∙ rw (q, map-append (bytesOf w) (owedBy w s) (answers L (requests bytes)), map-append (bytesOf w) (answers L (requests bytes)) (repairsOwed L (trace cs t)), append-assoc);
+        within = within-append L (length (w .file)) (answers L (requests bytes)) (repairsOwed L (trace cs t)) v (k .within);
         counted = omega arith;
       }
   on-call s x y i (Moves.emits d t z) f = on-does s d t z f
@@ -117,16 +117,16 @@ pub kept :
     → Lends (w .file) cs
     → BeforeEof (trace cs s)
     → Kept w s (trace cs s) (behind cs s)
-unfolding trace behind firstPass repairs owed steps R
+unfolding trace behind firstPass repairs repairsOwed stepCount R
 kept w g [] s i l f =
     record { inv = i; no-put = tt; first = refl; repaired = sym (append-nil (map (bytesOf w) (owedBy w s))); within = tt; counted = omega arith }
 kept w g (x ∷ cs) s i l f =
-    on-call w g cs (λ t j b. kept w g cs t j (l .1) b) s (seen x s) (after x s) i (call-moves w s i x (l .0)) f
+    on-call w g cs (λ t j b. kept w g cs t j (l .1) b) s (shows x s) (after x s) i (call-moves w s i x (l .0)) f
 
 -- ---- the place in a run
 
--- a first part of a run's events are a run's events
-record Place (file : List ℕ) (s : State) (es fs : List Event) : Type 0 where
+-- a first part of what a run shows is what a run shows
+record Place (file : List ℕ) (s : State) (es fs : List Shown) : Type 0 where
   before : List Call
   rest : List Call
   shown : trace before s ≡ es
@@ -134,7 +134,7 @@ record Place (file : List ℕ) (s : State) (es fs : List Event) : Type 0 where
   lends-before : Lends file before
   lends-rest : Lends file rest
 
-place : (file : List ℕ) (cs : List Call) (s : State) (es fs : List Event) → Lends file cs → trace cs s ≡ es ++ fs → Place file s es fs
+place : (file : List ℕ) (cs : List Call) (s : State) (es fs : List Shown) → Lends file cs → trace cs s ≡ es ++ fs → Place file s es fs
 unfolding trace behind
 place file cs s [] fs l e = record { before = []; rest = cs; shown = refl; coming = e; lends-before = tt; lends-rest = l }
 place file [] s (v ∷ es) fs l e = absurd (nil≢cons e)
@@ -143,7 +143,7 @@ place file (c ∷ cs) s (v ∷ es) fs l e =
     record {
       before = c ∷ k .before;
       rest = k .rest;
-      shown = ap₂ (λ (a : Event) (b : List Event). a ∷ b) (head-eq-of-cons-eq e) (k .shown);
+      shown = ap₂ (λ (a : Shown) (b : List Shown). a ∷ b) (head-eq-of-cons-eq e) (k .shown);
       coming = k .coming;
       lends-before = (l .0, k .lends-before);
       lends-rest = k .lends-rest;
@@ -189,14 +189,14 @@ plan-pos w t i =
     let l = simp length-append at (ap length (r .split)) in
     omega arith
 
-length-owed : (L : ℕ) (es : List Event) → length (owed L es) ≡ R L es
-unfolding owed R
-length-owed L [] = refl
-length-owed L (turned ∷ es) = length-owed L es
-length-owed L (began ∷ es) = length-owed L es
-length-owed L (took m ∷ es) = rw (length-append (answers L (requests m)) (owed L es), length-answers L (requests m), length-owed L es)
-length-owed L (made d ∷ es) = length-owed L es
-length-owed L (ended ∷ es) = length-owed L es
+length-repairsOwed : (L : ℕ) (es : List Shown) → length (repairsOwed L es) ≡ R L es
+unfolding repairsOwed R
+length-repairsOwed L [] = refl
+length-repairsOwed L (turned ∷ es) = length-repairsOwed L es
+length-repairsOwed L (began ∷ es) = length-repairsOwed L es
+length-repairsOwed L (took m ∷ es) = rw (length-append (answers L (requests m)) (repairsOwed L es), length-answers L (requests m), length-repairsOwed L es)
+length-repairsOwed L (went d ∷ es) = length-repairsOwed L es
+length-repairsOwed L (ended ∷ es) = length-repairsOwed L es
 
 pub at-start : (w : Transfer) (s : State) → Inv w s → s .step ≡ SendingMetadata → (pending (s .queue) ≡ []) × (s .file .progress ≡ 0)
 at-start w s i a = rw a at (i .here)
@@ -206,7 +206,7 @@ plan-is w s i a = rw (a, at-start w s i a .1, sub-zero (length (w .file)))
 
 -- ---- before the EOF, from the state that a put made
 
-module _ (w : Transfer) (c : Carries w) (s : State) (i : Inv w s) (a : s .step ≡ SendingMetadata) (es : List Event) (t : State) (k : Kept w s es t) where
+module _ (w : Transfer) (c : Carries w) (s : State) (i : Inv w s) (a : s .step ≡ SendingMetadata) (es : List Shown) (t : State) (k : Kept w s es t) where
   -- what is sent, and what is still to come, besides repairs
   first-pass : firstPass (w .segment) 0 es ++ map (bytesOf w) (planOf w t) ≡ map (bytesOf w) (planned w ++ lastly w ∷ [])
   first-pass =
@@ -222,10 +222,10 @@ module _ (w : Transfer) (c : Carries w) (s : State) (i : Inv w s) (a : s .step �
       ∙ first-pass
       ∙ map-append (bytesOf w) (planned w) (lastly w ∷ []))
 
-  repaired-all : repairs (w .segment) 0 es ++ map (bytesOf w) (owedBy w t) ≡ map (bytesOf w) (owed (w .segment) es)
+  repaired-all : repairs (w .segment) 0 es ++ map (bytesOf w) (owedBy w t) ≡ map (bytesOf w) (repairsOwed (w .segment) es)
   repaired-all = rw (none-owed w s (at-start w s i a .0)) at (k .repaired)
 
-  total : steps es + length (owedBy w t) + length (planOf w t) ≡ eofStep w es
+  total : stepCount es + length (owedBy w t) + length (planOf w t) ≡ eofStep w es
   total =
       let kc = k .counted in
       let z : length (owedBy w s) ≡ 0 = ap length (none-owed w s (at-start w s i a .0)) in
@@ -243,7 +243,7 @@ module _ (w : Transfer) (c : Carries w) (s : State) (i : Inv w s) (a : s .step �
       let r = ending w t (k .inv) in
       let lf = simp (length-append, length-map) at (ap length first-pass) in
       let lr = simp (length-append, length-map) at (ap length repaired-all) in
-      let lo = length-owed (w .segment) es in
+      let lo = length-repairsOwed (w .segment) es in
       let lt = length-tiles (w .segment) 0 (length (w .file)) in
       let tot = total in
       let lp = plan-pos w t (k .inv) in
@@ -251,11 +251,11 @@ module _ (w : Transfer) (c : Carries w) (s : State) (i : Inv w s) (a : s .step �
         early = omega arith;
         one-each = omega arith;
         tiling = (map decode (map (bytesOf w) (r .front)), front-read (firstPass (w .segment) 0 es) (r .front) (planned w) (planned-within w c) (first-cut (r .front) (r .split)));
-        answering = (map decode (map (bytesOf w) (owedBy w t)), front-read (repairs (w .segment) 0 es) (owedBy w t) (owed (w .segment) es) (k .within) repaired-all);
+        answering = (map decode (map (bytesOf w) (owedBy w t)), front-read (repairs (w .segment) 0 es) (owedBy w t) (repairsOwed (w .segment) es) (k .within) repaired-all);
         no-put = k .no-put;
       }
 
-  not-yet : (d : Option (List ℕ)) → isEof d ≡ false → suc (steps es) < eofStep w es → AtStep w es d
+  not-yet : (d : Option (List ℕ)) → isEof d ≡ false → suc (stepCount es) < eofStep w es → AtStep w es d
   not-yet d e h =
       record {
         when = ((λ y. absurd (true≢false (sym y ∙ e))), (λ z. absurd (omega arith)));
@@ -265,13 +265,13 @@ module _ (w : Transfer) (c : Carries w) (s : State) (i : Inv w s) (a : s .step �
   at-last : pending (t .queue) ≡ [] → planOf w t ≡ lastly w ∷ [] → AtEof w es (bytesOf w (lastly w))
   at-last q l =
       let all : firstPass (w .segment) 0 es ≡ map (bytesOf w) (planned w) = sym (append-nil (firstPass (w .segment) 0 es)) ∙ first-cut [] l in
-      let rep : repairs (w .segment) 0 es ≡ map (bytesOf w) (owed (w .segment) es) =
+      let rep : repairs (w .segment) 0 es ≡ map (bytesOf w) (repairsOwed (w .segment) es) =
       sym (append-nil (repairs (w .segment) 0 es)) ∙ (rw (none-owed w t q) at repaired-all) in
       record {
         says = last-read w c;
         tiled = rw all (all-read w c (planned w) (planned-within w c));
         bytes = rw all (planned-file w c);
-        answered = rw rep (all-read w c (owed (w .segment) es) (k .within));
+        answered = rw rep (all-read w c (repairsOwed (w .segment) es) (k .within));
       }
 
   on-emitted : (d : Sending) (u : State) → DoesFrom w t d u → AtStep w es (some (bytesOf w d))
@@ -294,23 +294,23 @@ module _ (w : Transfer) (c : Carries w) (s : State) (i : Inv w s) (a : s .step �
         what = λ y. (bytesOf w (lastly w), refl, at-last q p);
       }
 
-  on-next : (e : Event) (u : State) (d : Option (List ℕ)) → Moves w t e u → e ≡ made d → AtStep w es d
+  on-next : (e : Shown) (u : State) (d : Option (List ℕ)) → Moves w t e u → e ≡ went d → AtStep w es d
   on-next x y d Moves.refuses e = absurd (let z : _≡_ {A = ℕ} 0 1 = cc in omega arith)
   on-next x y d (Moves.takes m u q p v n j) e = absurd (let z : _≡_ {A = ℕ} 0 1 = cc in omega arith)
   on-next x y d (Moves.emits b u z) e = let g : some (bytesOf w b) ≡ d = cc in rw g at (on-emitted b u z)
   on-next x y d (Moves.ends u) e = absurd (let z : _≡_ {A = ℕ} 0 1 = cc in omega arith)
 
-  next-step : (cs : List Call) → Lends (w .file) cs → (d : Option (List ℕ)) (gs : List Event) → trace cs t ≡ made d ∷ gs → AtStep w es d
+  next-step : (cs : List Call) → Lends (w .file) cs → (d : Option (List ℕ)) (gs : List Shown) → trace cs t ≡ went d ∷ gs → AtStep w es d
   unfolding trace
   next-step [] l d gs e = absurd (nil≢cons e)
-  next-step (x ∷ cs) l d gs e = on-next (seen x t) (after x t) d (call-moves w t (k .inv) x (l .0)) (head-eq-of-cons-eq e)
+  next-step (x ∷ cs) l d gs e = on-next (shows x t) (after x t) d (call-moves w t (k .inv) x (l .0)) (head-eq-of-cons-eq e)
 
 -- ---- the demand
 
 at-place :
     (w : Transfer) → Carries w → (s : State) → Inv w s → s .step ≡ SendingMetadata
-    → (es fs : List Event) → Place (w .file) s es fs → BeforeEof es
-    → SoFar w es × ((d : Option (List ℕ)) (gs : List Event) → fs ≡ made d ∷ gs → AtStep w es d)
+    → (es fs : List Shown) → Place (w .file) s es fs → BeforeEof es
+    → SoFar w es × ((d : Option (List ℕ)) (gs : List Shown) → fs ≡ went d ∷ gs → AtStep w es d)
 at-place w c s i a es fs p f =
     (so-far w c s i a es t k, λ d gs e. next-step w c s i a es t k (p .rest) (p .lends-rest) d gs (p .coming ∙ e))
   where

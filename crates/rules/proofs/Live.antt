@@ -21,7 +21,7 @@ use Rattle.rules.specs.Deliver.{requestsIn}
 use Rattle.rules.specs.Put.{entryOf, putSpec, putAnswer, putState, byAnswer}
 use Rattle.rules.specs.Step.{dueOf, sendingOf, bytesFor, changed, made as madeStep, stepSpec, afterOf, stepBytes}
 use Rattle.rules.specs.Cancel.{newSpec}
-use Rattle.rules.specs.Runs.{Event, trace, behind, firstPass, requestsOfFrame, requestsOfBody, requests, Call, put, deliver, step, cancel, reset, turned, made, unless, pduIn, seen, emitted}
+use Rattle.rules.specs.Runs.{Shown, trace, behind, firstPass, requestsOfFrame, requestsOfBody, requests, Call, put, deliver, step, cancel, reset, turned, went, unless, pduIn, shows, emitted}
 use Rattle.rules.specs.Demand.{Transfer, planned, lastly, transferOf, meant}
 use Rattle.rules.specs.Companions.{carried, Live, ProgressMade, SecondPut, NakAsks, PlainSteps, PlainRun}
 use Rattle.rules.specs.Queues.{pending}
@@ -41,7 +41,7 @@ use Rattle.rules_pdu.proofs.Round.{length-encode}
 use Rattle.rules_pdu.proofs.Heard.{heard-read}
 use Rattle.rules.proofs.Outcomes.{answer-by, state-by}
 use Rattle.rules.proofs.Tiles.{sizes, sizes-tiles, length-tiles}
-use Rattle.rules.proofs.Emits.{bytesOf, same-bytes, Shows, step-shows}
+use Rattle.rules.proofs.Emits.{bytesOf, same-bytes, StepShows, step-shows}
 use Rattle.rules.proofs.Hold.{Inv, Small, Does, due-does, planOf, none-owed, does-some, DoesFrom, not-idle}
 use Rattle.rules.proofs.Stream.{Carries, carried-sizes, planned-within, all-read, last-read}
 use Rattle.rules.proofs.Begun.{put-passed, head-fit, names, room, range, carries, begun, begun-step, Passed}
@@ -112,11 +112,11 @@ live h c q source destination file a cs l f expired m n =
 
 -- ---- a plain run
 
-step-made : (w : Transfer) (s : State) → Inv w s → (n : ℕ) → Wide w n → (expired : Bool) (out : List ℕ) → n ≤ length out → seen (step (w .file) expired out) s ≡ turned → ⊥
+step-made : (w : Transfer) (s : State) → Inv w s → (n : ℕ) → Wide w n → (expired : Bool) (out : List ℕ) → n ≤ length out → shows (step (w .file) expired out) s ≡ turned → ⊥
 step-made w s i n z expired out l e =
     let a = step-live w s i n z expired (length out) l in
     let r = stepSpec s (w .file) expired (length out) in
-    let b : unless (r .answer) (made (pduIn (r .length) (stepBytes s (w .file) expired out))) ≡ made (pduIn (r .length) (stepBytes s (w .file) expired out)) = rw a in
+    let b : unless (r .answer) (went (pduIn (r .length) (stepBytes s (w .file) expired out))) ≡ went (pduIn (r .length) (stepBytes s (w .file) expired out)) = rw a in
     let y : _≡_ {A = ℕ} 0 1 = cc in
     omega arith
 
@@ -154,11 +154,11 @@ plain w n z (step lent expired out ∷ cs) s i q f e =
         let lp = ap length p in
         rw (p, no-calls cs (omega arith))
 
-    go : (e : Event) (t : State) → Shows w s x u e t → (e ≡ turned → ⊥)
+    go : (e : Shown) (t : State) → StepShows w s x u e t → (e ≡ turned → ⊥)
         → ((t : State) → Inv w t → pending (t .queue) ≡ [] → length cs ≡ length (planOf w t) → emitted (trace cs t) ≡ map (bytesOf w) (planOf w t))
         → emitted (e ∷ trace cs t) ≡ map (bytesOf w) (planOf w s)
-    go e t Shows.refuses y ih = absurd (y refl)
-    go e t (Shows.shows d g) y ih =
+    go e t StepShows.refuses y ih = absurd (y refl)
+    go e t (StepShows.passes d g) y ih =
         let k = due-does w s i expired in
         rw (g (does-some x u k)) (next x u k ih)
 
@@ -191,7 +191,7 @@ unfolding carried
 carried-append [] ys = omega arith
 carried-append (x ∷ xs) ys = let i = carried-append xs ys in omega arith
 
-progress-sent : (w : Transfer) → Carries w → (s : State) → Inv w s → s .step ≡ SendingMetadata → (es : List Event) (t : State) → Kept w s es t
+progress-sent : (w : Transfer) → Carries w → (s : State) → Inv w s → s .step ≡ SendingMetadata → (es : List Shown) (t : State) → Kept w s es t
     → t .file .progress ≡ carried (firstPass (w .segment) 0 es)
 unfolding sizes
 progress-sent w c s i a es t k =

@@ -14,7 +14,7 @@ use Rattle.rules.specs.Put.{started, putAnswer, putState, byAnswer, putS
 use Rattle.rules.specs.Deliver.{verdictOf, takesNak, nakOf, movedBy, asked, byVerdict, deliverSpec}
 use Rattle.rules.specs.Step.{dueOf, nextLength, afterCancelEof, afterMetadata, afterData, afterEof, afterOf, changed, bytesDue, made as madeStep, stepSpec}
 use Rattle.rules.specs.Cancel.{resetSpec}
-use Rattle.rules.specs.Runs.{put, deliver, step, cancel, reset, Event, began, took, made, after, unless, trace, behind}
+use Rattle.rules.specs.Runs.{put, deliver, step, cancel, reset, Shown, began, took, went, after, unless, trace, behind}
 use Rattle.rules.specs.NumberMoves.{moves, movesAll, NumberMoves, NumberBehind}
 use Rattle.types.specs.declared.SegmentRequest.{SegmentRequest}
 use Rattle.types.specs.declared.Frame.{Frame}
@@ -33,8 +33,8 @@ use Rattle.types.specs.declared.Done.{Done}
 use Rattle.types.specs.declared.Stepped.{Stepped}
 use Rattle.rules.proofs.Outcomes.{cancel-by, delivered-by}
 
--- refused or not, a call whose event leaves the number shows nothing that moves it
-unless-same : (a : Answer) (e : Event) (n : TransactionSeqNum) → n ≡ moves e n → n ≡ moves (unless a e) n
+-- what leaves the number where a call is accepted leaves it where the call is refused
+unless-same : (a : Answer) (e : Shown) (n : TransactionSeqNum) → n ≡ moves e n → n ≡ moves (unless a e) n
 unless-same Accepted e n h = h
 unless-same (Refused r) e n h = refl
 
@@ -113,7 +113,7 @@ pub number-moves : NumberMoves
 unfolding putSpec putState started resetSpec
 number-moves (put c q a b S) s = put-moves s (putState s c q a b S) (putAnswer s c q a b S) refl
 number-moves (deliver bytes) s = deliver-same s bytes ∙ unless-same (deliverSpec s bytes .answer) (took bytes) (s .number) refl
-number-moves (step lent expired out) s = step-same s lent expired (length out) ∙ unless-same (stepSpec s lent expired (length out) .answer) (made _) (s .number) refl
+number-moves (step lent expired out) s = step-same s lent expired (length out) ∙ unless-same (stepSpec s lent expired (length out) .answer) (went _) (s .number) refl
 number-moves (cancel source number) s = cancel-by s (λ e t. t .number ≡ moves e (s .number)) refl refl source number
 number-moves reset s = idle-same s
 

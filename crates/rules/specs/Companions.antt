@@ -20,7 +20,7 @@ use Rattle.rules.specs.Deliver.{deliverSpec}
 use Rattle.rules.specs.Step.{stepSpec}
 use Rattle.rules.specs.Cancel.{newSpec}
 use Rattle.rules.specs.Tiles.{ceil, answers, weights}
-use Rattle.rules.specs.Runs.{Call, put, deliver, step, cancel, reset, Event, turned, began, took, made, ended, trace, behind, Lends, steps, BeforeEof, NoPut, NoEnd, StepsOnly, requests, emitted, firstPass}
+use Rattle.rules.specs.Runs.{Call, put, deliver, step, cancel, reset, Shown, turned, began, took, went, ended, trace, behind, Lends, stepCount, BeforeEof, NoPut, NoEnd, StepsOnly, requests, emitted, firstPass}
 use Rattle.types.specs.declared.Head.{Head}
 use Rattle.types.specs.declared.LocalEntityConfig.{LocalEntityConfig}
 use Rattle.types.specs.declared.PutRequest.{PutRequest}
@@ -95,13 +95,13 @@ LiesBelow mark none = Unit {0}
 LiesBelow mark (some d) = (d .0 < mark) × (d .0 + length (d .1) ≤ mark)
 
 -- k as in `firstPass`
-abbrev pub Apart : ℕ → ℕ → ℕ → List Event → Type 0
+abbrev pub Apart : ℕ → ℕ → ℕ → List Shown → Type 0
 Apart L k mark [] = Unit {0}
 Apart L k mark (turned ∷ es) = Apart L k mark es
 Apart L k mark (began ∷ es) = Apart L k mark es
 Apart L k mark (took bytes ∷ es) = Apart L (k + weights L (requests bytes)) mark es
-Apart L zero mark (made d ∷ es) = BeginsAt mark (dataIn d) × Apart L zero (onto (dataIn d) mark) es
-Apart L (suc k) mark (made d ∷ es) = LiesBelow mark (dataIn d) × Apart L k mark es
+Apart L zero mark (went d ∷ es) = BeginsAt mark (dataIn d) × Apart L zero (onto (dataIn d) mark) es
+Apart L (suc k) mark (went d ∷ es) = LiesBelow mark (dataIn d) × Apart L k mark es
 Apart L k mark (ended ∷ es) = Apart L k mark es
 
 abbrev pub ToldApart : Type 0
@@ -147,8 +147,8 @@ NakAnswered =
     → let t = deliverSpec (behind cs s) bytes .state in
     let w = transferOf c q (h .number) source destination file in
     let all = answers (w .segment) (pending (behind cs s .queue)) ++ answers (w .segment) (requests bytes) in
-    StepsOnly (trace ds t) → steps (trace ds t) ≤ length all
-    → map decode (emitted (trace ds t)) ≡ take (steps (trace ds t)) (map (meant w) all)
+    StepsOnly (trace ds t) → stepCount (trace ds t) ≤ length all
+    → map decode (emitted (trace ds t)) ≡ take (stepCount (trace ds t)) (map (meant w) all)
 
 -- PROMISE bench-sheet: a NAK of 41 requests, accepted with nothing pending: the next unrefused steps, as many as it owes PDUs, emit all pieces of
 -- each request in order.
@@ -164,5 +164,5 @@ BenchSheet =
     → (ds : List Call) → Lends file ds
     → let t = deliverSpec (behind cs s) bytes .state in
     let w = transferOf c q (h .number) source destination file in
-    StepsOnly (trace ds t) → steps (trace ds t) ≡ weights (w .segment) (requests bytes)
+    StepsOnly (trace ds t) → stepCount (trace ds t) ≡ weights (w .segment) (requests bytes)
     → map decode (emitted (trace ds t)) ≡ map (meant w) (answers (w .segment) (requests bytes))

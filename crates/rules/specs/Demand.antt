@@ -18,7 +18,7 @@ use Rattle.rules_pdu.specs.Layout.{Said, metadata, fileData, eof, ackFinished, 
 use Rattle.rules_pdu.specs.Decoding.{withHead, decode, fileDataOf}
 use Rattle.rules.specs.Put.{entryOf, chosen, headOf, putSpec}
 use Rattle.rules.specs.Tiles.{ceil, tiles}
-use Rattle.rules.specs.Runs.{Call, Event, made, trace, Lends, steps, isEof, BeforeEof, NoPut, owed, R, firstPass, repairs}
+use Rattle.rules.specs.Runs.{Call, Shown, went, trace, Lends, stepCount, isEof, BeforeEof, NoPut, repairsOwed, R, firstPass, repairs}
 use Rattle.types.specs.declared.TransactionSeqNum.{TransactionSeqNum}
 use Rattle.types.specs.declared.Head.{Head}
 use Rattle.types.specs.declared.RemoteEntityConfig.{RemoteEntityConfig}
@@ -101,27 +101,27 @@ unfoldable pub stretch : ℕ → List (List ℕ) → Option (List ℕ)
 stretch at [] = some []
 stretch at (b ∷ bs) = placed (fileDataOf b) at (stretch (onto (fileDataOf b) at) bs)
 
--- ---- the demand. es are the events since the put, up to any moment before the EOF; L is w .segment, S is length (w .file)
+-- ---- the demand. es is what the calls since the put have shown, up to any moment before the EOF; L is w .segment, S is length (w .file)
 
 -- "the unrefused step numbered 2 + ceil(S/L) + R"; R counts the NAKs accepted so far
-abbrev pub eofStep : Transfer → List Event → ℕ
+abbrev pub eofStep : Transfer → List Shown → ℕ
 eofStep w es = 2 + ceil (length (w .file)) (w .segment) + R (w .segment) es
 
 -- before the EOF
-pub record SoFar (w : Transfer) (es : List Event) : Type 0 where
+pub record SoFar (w : Transfer) (es : List Shown) : Type 0 where
   -- the EOF's step is still to come
-  pub early : steps es < eofStep w es
+  pub early : stepCount es < eofStep w es
   -- each unrefused step has emitted one PDU
-  pub one-each : steps es ≡ length (firstPass (w .segment) 0 es) + length (repairs (w .segment) 0 es)
+  pub one-each : stepCount es ≡ length (firstPass (w .segment) 0 es) + length (repairs (w .segment) 0 es)
   -- those not owed to a NAK, read by the other side, are the first of the metadata and the file's tiles
   pub tiling : Front (map decode (firstPass (w .segment) 0 es)) (map (meant w) (planned w))
   -- those owed, read, are the first of the answers to the requests, in order
-  pub answering : Front (map decode (repairs (w .segment) 0 es)) (map (meant w) (owed (w .segment) es))
+  pub answering : Front (map decode (repairs (w .segment) 0 es)) (map (meant w) (repairsOwed (w .segment) es))
   -- no other put was accepted
   pub no-put : NoPut es
 
 -- when the EOF d leaves
-pub record AtEof (w : Transfer) (es : List Event) (d : List ℕ) : Type 0 where
+pub record AtEof (w : Transfer) (es : List Shown) (d : List ℕ) : Type 0 where
   -- read, it says NoError, the file's checksum and S
   pub says : decode d ≡ meant w (lastly w)
   -- the metadata and the tiles have all left
@@ -129,11 +129,11 @@ pub record AtEof (w : Transfer) (es : List Event) (d : List ℕ) : Type 0 where
   -- and their data, each piece behind the one before, are the file
   pub bytes : stretch 0 (firstPass (w .segment) 0 es) ≡ some (w .file)
   -- all that is owed has left
-  pub answered : map decode (repairs (w .segment) 0 es) ≡ map (meant w) (owed (w .segment) es)
+  pub answered : map decode (repairs (w .segment) 0 es) ≡ map (meant w) (repairsOwed (w .segment) es)
 
 -- The next unrefused step emits d: an EOF exactly if the step has that number.
-pub record AtStep (w : Transfer) (es : List Event) (d : Option (List ℕ)) : Type 0 where
-  pub when : (isEof d ≡ true) ↔ (suc (steps es) ≡ eofStep w es)
+pub record AtStep (w : Transfer) (es : List Shown) (d : Option (List ℕ)) : Type 0 where
+  pub when : (isEof d ≡ true) ↔ (suc (stepCount es) ≡ eofStep w es)
   pub what : isEof d ≡ true → (b : List ℕ) × (d ≡ some b) × AtEof w es b
 
 -- PROMISE third-demand: after an accepted put of a file on any handler, fresh or used, over any calls whose steps lend this file: at every place of
@@ -145,6 +145,6 @@ ThirdDemand =
     → Bytes file → length file < 2 ^ 64
     → putSpec h c q source destination (length file) .answer ≡ Accepted
     → (cs : List Call) → Lends file cs
-    → (es fs : List Event) → trace cs (putSpec h c q source destination (length file) .state) ≡ es ++ fs → BeforeEof es
+    → (es fs : List Shown) → trace cs (putSpec h c q source destination (length file) .state) ≡ es ++ fs → BeforeEof es
     → let w = transferOf c q (h .number) source destination file in
-    SoFar w es × ((d : Option (List ℕ)) (gs : List Event) → fs ≡ made d ∷ gs → AtStep w es d)
+    SoFar w es × ((d : Option (List ℕ)) (gs : List Shown) → fs ≡ went d ∷ gs → AtStep w es d)

@@ -1,4 +1,4 @@
--- A run: calls of any kind made one after another, what the host sees of each, and what can be counted from that alone.
+-- A run: calls of any kind made one after another, what each shows the host, and what can be counted from that alone.
 -- From the heading "what can be counted" on, nothing looks into the handler.
 -- Assumes nothing.
 use mathlib.Core.Path.{_≡_}
@@ -31,7 +31,7 @@ use Rattle.types.specs.declared.Answer.the-variants.{Accepted, Refused}
 use Rattle.types.specs.declared.Sending.{Sending}
 use Rattle.types.specs.declared.State.{State}
 
--- ---- calls and events
+-- ---- calls, and what they show
 
 -- a step lends the file and the out buffer
 pub data Call : Type 0 where
@@ -41,13 +41,13 @@ pub data Call : Type 0 where
   cancel : (source : EntityId) → (number : TransactionSeqNum) → Call
   reset : Call
 
--- what the host sees of a call
-pub data Event : Type 0 where
-  turned : Event  -- refused, or a cancel that answers no
-  began : Event  -- an accepted put
-  took : (bytes : List ℕ) → Event  -- an accepted delivery
-  made : (pdu : Option (List ℕ)) → Event  -- an unrefused step: the PDU's bytes in the out buffer, or none
-  ended : Event  -- a cancel that answers yes, or a reset
+-- what a call shows the host
+pub data Shown : Type 0 where
+  turned : Shown  -- refused, or a cancel that answers no
+  began : Shown  -- an accepted put
+  took : (bytes : List ℕ) → Shown  -- an accepted delivery
+  went : (pdu : Option (List ℕ)) → Shown  -- an unrefused step: the PDU's bytes in the out buffer, or none
+  ended : Shown  -- a cancel that answers yes, or a reset
 
 -- the state after a call
 abbrev pub after : Call → State → State
@@ -58,7 +58,7 @@ after (cancel source number) s = cancelSpec s source number .state
 after reset s = resetSpec s
 
 -- what an accepted call shows; a refused one is turned
-abbrev pub unless : Answer → Event → Event
+abbrev pub unless : Answer → Shown → Shown
 unless Accepted e = e
 unless (Refused r) e = turned
 
@@ -67,19 +67,19 @@ abbrev pub pduIn : ℕ → List ℕ → Option (List ℕ)
 pduIn zero out = none
 pduIn (suc n) out = some (take (suc n) out)
 
-abbrev pub seen : Call → State → Event
-seen (put c q a b S) s = unless (putSpec s c q a b S .answer) began
-seen (deliver bytes) s = unless (deliverSpec s bytes .answer) (took bytes)
-seen (step lent expired out) s =
+abbrev pub shows : Call → State → Shown
+shows (put c q a b S) s = unless (putSpec s c q a b S .answer) began
+shows (deliver bytes) s = unless (deliverSpec s bytes .answer) (took bytes)
+shows (step lent expired out) s =
     let r = stepSpec s lent expired (length out) in
-    unless (r .answer) (made (pduIn (r .length) (stepBytes s lent expired out)))
-seen (cancel source number) s = pick (cancelSpec s source number .yes) ended turned
-seen reset s = ended
+    unless (r .answer) (went (pduIn (r .length) (stepBytes s lent expired out)))
+shows (cancel source number) s = pick (cancelSpec s source number .yes) ended turned
+shows reset s = ended
 
--- the events of a run, and the state behind it
-unfoldable pub trace : List Call → State → List Event
+-- what the calls of a run show, one after another, and the state behind it
+unfoldable pub trace : List Call → State → List Shown
 trace [] s = []
-trace (c ∷ cs) s = seen c s ∷ trace cs (after c s)
+trace (c ∷ cs) s = shows c s ∷ trace cs (after c s)
 
 unfoldable pub behind : List Call → State → State
 behind [] s = s
@@ -97,55 +97,55 @@ abbrev pub Lends : List ℕ → List Call → Type 0
 Lends file [] = Unit {0}
 Lends file (c ∷ cs) = LendsIn file c × Lends file cs
 
--- ---- what can be counted from the events
+-- ---- what can be counted from that
 
 -- the steps that were not refused
-unfoldable pub steps : List Event → ℕ
-steps [] = 0
-steps (turned ∷ es) = steps es
-steps (began ∷ es) = steps es
-steps (took bytes ∷ es) = steps es
-steps (made d ∷ es) = suc (steps es)
-steps (ended ∷ es) = steps es
+unfoldable pub stepCount : List Shown → ℕ
+stepCount [] = 0
+stepCount (turned ∷ es) = stepCount es
+stepCount (began ∷ es) = stepCount es
+stepCount (took bytes ∷ es) = stepCount es
+stepCount (went d ∷ es) = suc (stepCount es)
+stepCount (ended ∷ es) = stepCount es
 
 abbrev pub isEof : Option (List ℕ) → Bool
 isEof none = false
 isEof (some b) = isEofIn b
 
 -- no EOF has left, no cancel was taken and no reset was made
-abbrev pub BeforeEof : List Event → Type 0
+abbrev pub BeforeEof : List Shown → Type 0
 BeforeEof [] = Unit {0}
 BeforeEof (turned ∷ es) = BeforeEof es
 BeforeEof (began ∷ es) = BeforeEof es
 BeforeEof (took bytes ∷ es) = BeforeEof es
-BeforeEof (made d ∷ es) = (isEof d ≡ false) × BeforeEof es
+BeforeEof (went d ∷ es) = (isEof d ≡ false) × BeforeEof es
 BeforeEof (ended ∷ es) = ⊥
 
 -- no put was accepted
-abbrev pub NoPut : List Event → Type 0
+abbrev pub NoPut : List Shown → Type 0
 NoPut [] = Unit {0}
 NoPut (turned ∷ es) = NoPut es
 NoPut (began ∷ es) = ⊥
 NoPut (took bytes ∷ es) = NoPut es
-NoPut (made d ∷ es) = NoPut es
+NoPut (went d ∷ es) = NoPut es
 NoPut (ended ∷ es) = NoPut es
 
 -- no cancel was taken and no reset was made
-abbrev pub NoEnd : List Event → Type 0
+abbrev pub NoEnd : List Shown → Type 0
 NoEnd [] = Unit {0}
 NoEnd (turned ∷ es) = NoEnd es
 NoEnd (began ∷ es) = NoEnd es
 NoEnd (took bytes ∷ es) = NoEnd es
-NoEnd (made d ∷ es) = NoEnd es
+NoEnd (went d ∷ es) = NoEnd es
 NoEnd (ended ∷ es) = ⊥
 
 -- no call but steps was accepted
-abbrev pub StepsOnly : List Event → Type 0
+abbrev pub StepsOnly : List Shown → Type 0
 StepsOnly [] = Unit {0}
 StepsOnly (turned ∷ es) = StepsOnly es
 StepsOnly (began ∷ es) = ⊥
 StepsOnly (took bytes ∷ es) = ⊥
-StepsOnly (made d ∷ es) = StepsOnly es
+StepsOnly (went d ∷ es) = StepsOnly es
 StepsOnly (ended ∷ es) = ⊥
 
 -- the requests in a delivery's bytes: a NAK's pairs; none in any other
@@ -162,20 +162,20 @@ unfoldable pub requests : List ℕ → List SegmentRequest
 requests bytes = requestsOfFrame bytes (framedIn bytes)
 
 -- the PDUs that the NAKs accepted so far owe, in order; and R, the number of them
-unfoldable pub owed : ℕ → List Event → List Sending
-owed L [] = []
-owed L (turned ∷ es) = owed L es
-owed L (began ∷ es) = owed L es
-owed L (took bytes ∷ es) = answers L (requests bytes) ++ owed L es
-owed L (made d ∷ es) = owed L es
-owed L (ended ∷ es) = owed L es
+unfoldable pub repairsOwed : ℕ → List Shown → List Sending
+repairsOwed L [] = []
+repairsOwed L (turned ∷ es) = repairsOwed L es
+repairsOwed L (began ∷ es) = repairsOwed L es
+repairsOwed L (took bytes ∷ es) = answers L (requests bytes) ++ repairsOwed L es
+repairsOwed L (went d ∷ es) = repairsOwed L es
+repairsOwed L (ended ∷ es) = repairsOwed L es
 
-unfoldable pub R : ℕ → List Event → ℕ
+unfoldable pub R : ℕ → List Shown → ℕ
 R L [] = 0
 R L (turned ∷ es) = R L es
 R L (began ∷ es) = R L es
 R L (took bytes ∷ es) = weights L (requests bytes) + R L es
-R L (made d ∷ es) = R L es
+R L (went d ∷ es) = R L es
 R L (ended ∷ es) = R L es
 
 abbrev pub list : Option (List ℕ) → List (List ℕ)
@@ -183,29 +183,29 @@ list none = []
 list (some b) = b ∷ []
 
 -- the emitted PDUs
-unfoldable pub emitted : List Event → List (List ℕ)
+unfoldable pub emitted : List Shown → List (List ℕ)
 emitted [] = []
 emitted (turned ∷ es) = emitted es
 emitted (began ∷ es) = emitted es
 emitted (took bytes ∷ es) = emitted es
-emitted (made d ∷ es) = list d ++ emitted es
+emitted (went d ∷ es) = list d ++ emitted es
 emitted (ended ∷ es) = emitted es
 
 -- The emitted PDUs, told apart. k is how many PDUs are owed to NAKs and not yet emitted: while there are any, an emitted PDU is a repair.
-unfoldable pub firstPass : ℕ → ℕ → List Event → List (List ℕ)
+unfoldable pub firstPass : ℕ → ℕ → List Shown → List (List ℕ)
 firstPass L k [] = []
 firstPass L k (turned ∷ es) = firstPass L k es
 firstPass L k (began ∷ es) = firstPass L k es
 firstPass L k (took bytes ∷ es) = firstPass L (k + weights L (requests bytes)) es
-firstPass L zero (made d ∷ es) = list d ++ firstPass L zero es
-firstPass L (suc k) (made d ∷ es) = firstPass L k es
+firstPass L zero (went d ∷ es) = list d ++ firstPass L zero es
+firstPass L (suc k) (went d ∷ es) = firstPass L k es
 firstPass L k (ended ∷ es) = firstPass L k es
 
-unfoldable pub repairs : ℕ → ℕ → List Event → List (List ℕ)
+unfoldable pub repairs : ℕ → ℕ → List Shown → List (List ℕ)
 repairs L k [] = []
 repairs L k (turned ∷ es) = repairs L k es
 repairs L k (began ∷ es) = repairs L k es
 repairs L k (took bytes ∷ es) = repairs L (k + weights L (requests bytes)) es
-repairs L zero (made d ∷ es) = repairs L zero es
-repairs L (suc k) (made d ∷ es) = list d ++ repairs L k es
+repairs L zero (went d ∷ es) = repairs L zero es
+repairs L (suc k) (went d ∷ es) = list d ++ repairs L k es
 repairs L k (ended ∷ es) = repairs L k es
