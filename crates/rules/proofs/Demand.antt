@@ -1,9 +1,9 @@
 -- The third demand. Over a run before the EOF, what was emitted and what is still planned or owed make up what was planned and owed (`Kept`);
 -- the number of the EOF's step is a length of this.
 -- Assumes nothing.
-use mathlib.Core.Path.{_≡_, refl, sym, ap, ap₂, _∙_}
+use mathlib.Core.Path.{_≡_, refl, sym, ap, _∙_}
 use mathlib.Core.Bool.{false, true≢false}
-use mathlib.Core.List.{List, [], _∷_, _++_, map, map-append, append-nil, append-assoc, append-cancel-right, nil≢cons, head-eq-of-cons-eq, tail-eq-of-cons-eq}
+use mathlib.Core.List.{List, [], _∷_, _++_, map, map-append, append-nil, append-assoc, append-cancel-right}
 use mathlib.Core.Option.{Option, some}
 use Prim.Native.Nat.{ℕ, suc, _+_, _-_, _<_}
 use native.Mathlib.Nat.{sub-zero}
@@ -123,31 +123,7 @@ kept w g [] s i l f =
 kept w g (x ∷ cs) s i l f =
     on-call w g cs (λ t j b. kept w g cs t j (l .1) b) s (shows x s) (after x s) i (call-moves w s i x (l .0)) f
 
--- ---- the place in a run
-
--- a first part of what a run shows is what a run shows
-record Place (file : List ℕ) (s : State) (es fs : List Shown) : Type 0 where
-  before : List Call
-  rest : List Call
-  shown : trace before s ≡ es
-  coming : trace rest (behind before s) ≡ fs
-  lends-before : Lends file before
-  lends-rest : Lends file rest
-
-place : (file : List ℕ) (cs : List Call) (s : State) (es fs : List Shown) → Lends file cs → trace cs s ≡ es ++ fs → Place file s es fs
-unfolding trace behind
-place file cs s [] fs l e = record { before = []; rest = cs; shown = refl; coming = e; lends-before = tt; lends-rest = l }
-place file [] s (v ∷ es) fs l e = absurd (nil≢cons e)
-place file (c ∷ cs) s (v ∷ es) fs l e =
-    let k = place file cs (after c s) es fs (l .1) (tail-eq-of-cons-eq e) in
-    record {
-      before = c ∷ k .before;
-      rest = k .rest;
-      shown = ap₂ (λ (a : Shown) (b : List Shown). a ∷ b) (head-eq-of-cons-eq e) (k .shown);
-      coming = k .coming;
-      lends-before = (l .0, k .lends-before);
-      lends-rest = k .lends-rest;
-    }
+-- ---- what is left to send
 
 -- the plan's end is the EOF; before it stands what can be read, with all bytes that are still to be sent
 pub record Ends (w : Transfer) (l : List Sending) (p : ℕ) : Type 0 where
@@ -300,29 +276,15 @@ module _ (w : Transfer) (c : Carries w) (s : State) (i : Inv w s) (a : s .step �
   on-next x y d (Moves.emits b u z) e = let g : some (bytesOf w b) ≡ d = cc in rw g at (on-emitted b u z)
   on-next x y d (Moves.ends u) e = absurd (let z : _≡_ {A = ℕ} 0 1 = cc in omega arith)
 
-  next-step : (cs : List Call) → Lends (w .file) cs → (d : Option (List ℕ)) (gs : List Shown) → trace cs t ≡ went d ∷ gs → AtStep w es d
-  unfolding trace
-  next-step [] l d gs e = absurd (nil≢cons e)
-  next-step (x ∷ cs) l d gs e = on-next (shows x t) (after x t) d (call-moves w t (k .inv) x (l .0)) (head-eq-of-cons-eq e)
-
 -- ---- the demand
 
-at-place :
-    (w : Transfer) → Carries w → (s : State) → Inv w s → s .step ≡ SendingMetadata
-    → (es fs : List Shown) → Place (w .file) s es fs → BeforeEof es
-    → SoFar w es × ((d : Option (List ℕ)) (gs : List Shown) → fs ≡ went d ∷ gs → AtStep w es d)
-at-place w c s i a es fs p f =
-    (so-far w c s i a es t k, λ d gs e. next-step w c s i a es t k (p .rest) (p .lends-rest) d gs (p .coming ∙ e))
-  where
-    t : State
-    t = behind (p .before) s
-
-    k : Kept w s es t
-    k = rw (p .shown) at (kept w (c .fit) (p .before) s i (p .lends-before) (rw (p .shown) f))
-
 pub third-demand : ThirdDemand
-third-demand h c q source destination file b l a cs lends es fs e f =
+third-demand h c q source destination file b l a cs lends f =
     let p = put-passed h c q source destination (length file) a in
     let s = putSpec h c q source destination (length file) .state in
-    at-place _ (carries h c q source destination file p b l) s (begun h c q source destination file p) (begun-step h c q source destination file p)
-    es fs (place file cs s es fs lends e) f
+    let i = begun h c q source destination file p in
+    let y = carries h c q source destination file p b l in
+    let e = begun-step h c q source destination file p in
+    let t = behind cs s in
+    let k = kept _ (y .fit) cs s i lends f in
+    (so-far _ y s i e (trace cs s) t k, λ next d m z. on-next _ y s i e (trace cs s) t k (shows next t) (after next t) d (call-moves _ t (k .inv) next m) z)

@@ -1,6 +1,5 @@
 -- The third demand, on bytes: which PDUs leave after an accepted put, in which step the EOF leaves and what it says. Proof: proofs/Demand.antt.
--- To read it: (x : A) → .. is "for every x", P → Q "if P, then Q", P × Q "P and Q", P ↔ Q "exactly if"; x .f is the field f of x;
--- x ∷ l is a list that begins with x, ++ joins two; `map f l` is f of each.
+-- What the signs mean stands at the top of Calls.antt.
 -- Assumes nothing.
 use mathlib.Core.Path.{_≡_}
 use mathlib.Core.Logic.{_↔_}
@@ -10,7 +9,7 @@ use mathlib.Core.Option.{Option, none, some}
 use Prim.Native.Nat.{ℕ, suc, _+_, _^_, _<_}
 use lib.Dec.{eqb}
 use lib.ListN.{length, take, drop}
-use Rattle.basis.specs.Pick.{pick}
+use Rattle.basis.specs.Pick.{_and_}
 use Rattle.basis.specs.Bytes.{Bytes}
 use Rattle.rules_pdu.specs.Numbers.{segmentLength}
 use Rattle.rules_leaves.specs.Checksum.{sumOf}
@@ -18,7 +17,7 @@ use Rattle.rules_pdu.specs.Layout.{Said, metadata, fileData, eof, ackFinished, 
 use Rattle.rules_pdu.specs.Decoding.{withHead, decode, fileDataOf}
 use Rattle.rules.specs.Put.{entryOf, chosen, headOf, putSpec}
 use Rattle.rules.specs.Tiles.{ceil, tiles}
-use Rattle.rules.specs.Runs.{Call, Shown, went, trace, Lends, stepCount, isEof, BeforeEof, NoPut, repairsOwed, R, firstPass, repairs}
+use Rattle.rules.specs.Runs.{Call, Shown, went, shows, trace, behind, LendsIn, Lends, stepCount, isEof, BeforeEof, NoPut, repairsOwed, R, firstPass, repairs}
 use Rattle.types.specs.declared.TransactionSeqNum.{TransactionSeqNum}
 use Rattle.types.specs.declared.Head.{Head}
 use Rattle.types.specs.declared.RemoteEntityConfig.{RemoteEntityConfig}
@@ -44,7 +43,7 @@ abbrev pub transferBy : RemoteEntityConfig → PutRequest → Head → List ℕ 
 transferBy e q h source destination file =
     record {
       head = h;
-      closure = pick (h .unacknowledged) (chosen (q .closure) (e .closure)) false;
+      closure = h .unacknowledged and chosen (q .closure) (e .closure);
       type = e .checksum;
       segment = segmentLength (e .maxsegment) (e .maxpacket) h;
       source = source;
@@ -136,8 +135,8 @@ pub record AtStep (w : Transfer) (es : List Shown) (d : Option (List ℕ)) : Typ
   pub when : (isEof d ≡ true) ↔ (suc (stepCount es) ≡ eofStep w es)
   pub what : isEof d ≡ true → (b : List ℕ) × (d ≡ some b) × AtEof w es b
 
--- PROMISE third-demand: after an accepted put of a file on any handler, fresh or used, over any calls whose steps lend this file: at every place of
--- the run with no EOF before it and no cancel or reset (es before it, fs behind it), what stands above. `decode` is the other side's reading, by
+-- PROMISE third-demand: after an accepted put of a file on any handler, fresh or used, and any calls that lend this file and show no EOF, no cancel and
+-- no reset, what stands above: of all that they have shown, and of the next call, if it is an unrefused step. `decode` is the other side's reading, by
 -- document 01's layouts and not by the writer's definitions.
 abbrev pub ThirdDemand : Type 0
 ThirdDemand =
@@ -145,6 +144,8 @@ ThirdDemand =
     → Bytes file → length file < 2 ^ 64
     → putSpec h c q source destination (length file) .answer ≡ Accepted
     → (cs : List Call) → Lends file cs
-    → (es fs : List Shown) → trace cs (putSpec h c q source destination (length file) .state) ≡ es ++ fs → BeforeEof es
-    → let w = transferOf c q (h .number) source destination file in
-    SoFar w es × ((d : Option (List ℕ)) (gs : List Shown) → fs ≡ went d ∷ gs → AtStep w es d)
+    → let s = putSpec h c q source destination (length file) .state in
+    let w = transferOf c q (h .number) source destination file in
+    BeforeEof (trace cs s)
+    → SoFar w (trace cs s)
+    × ((next : Call) (d : Option (List ℕ)) → LendsIn file next → shows next (behind cs s) ≡ went d → AtStep w (trace cs s) d)

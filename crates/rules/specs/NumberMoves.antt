@@ -2,7 +2,6 @@
 -- Assumes nothing.
 use mathlib.Core.Path.{_≡_}
 use mathlib.Core.List.{List, [], _∷_}
-use Prim.Native.Nat.{ℕ, _+_, _*_, _^_, _<_}
 use Rattle.rules_pdu.specs.Numbers.{numberAfter}
 use Rattle.rules.specs.Runs.{Call, Shown, turned, began, took, went, ended, after, shows, trace, behind}
 use Rattle.types.specs.declared.TransactionSeqNum.{TransactionSeqNum}
