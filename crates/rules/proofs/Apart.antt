@@ -11,8 +11,8 @@ use Rattle.rules_pdu.specs.Decoding.{fileDataOf}
 use Rattle.rules.specs.Put.{putSpec}
 use Rattle.rules.specs.Tiles.{answers, weights}
 use Rattle.rules.specs.Runs.{Call, Shown, went, after, shows, trace, Lends, BeforeEof, requests}
-use Rattle.rules.specs.Demand.{Transfer, onto}
-use Rattle.rules.specs.Companions.{BeginsAt, LiesBelow, Apart, ToldApart}
+use Rattle.rules.specs.Demand.{Transfer}
+use Rattle.rules.specs.Companions.{bytesOfData, BeginsAt, LiesBelow, Apart, ToldApart}
 use Rattle.types.specs.declared.State.{State}
 use Rattle.types.specs.declared.Sending.{Sending}
 use Rattle.types.specs.declared.Sending.the-variants.{Nothing as NoPdu, Metadata as MetadataPdu, FileData, Eof as EofPdu, AckFinished}
@@ -32,9 +32,9 @@ module _ (w : Transfer) (c : Carries w) where
   below p (AckFinished k) l h = absurd h
 
   begins : (p r : ℕ) (d : Sending) → r ≤ length (w .file) → Small (w .segment) d → Onward p r d
-      → BeginsAt p (fileDataOf (bytesOf w d)) × (onto (fileDataOf (bytesOf w d)) p ≡ r)
+      → BeginsAt p (fileDataOf (bytesOf w d)) × (p + bytesOfData (fileDataOf (bytesOf w d)) ≡ r)
   begins p r NoPdu l s h = absurd h
-  begins p r MetadataPdu l s h = rw (metadata-of w c) (tt, sym h)
+  begins p r MetadataPdu l s h = rw (metadata-of w c) (tt, omega arith)
   begins p r (FileData o n) l s h = rw (data-of w c o n (omega arith) s, taken-length w c o n (omega arith)) (omega arith)
   begins p r (EofPdu e) l s h = absurd h
   begins p r (AckFinished k) l s h = absurd h

@@ -27,7 +27,7 @@ use Rattle.types.specs.declared.PutRequest.{PutRequest}
 use Rattle.types.specs.declared.SegmentRequest.{SegmentRequest}
 use Rattle.types.specs.declared.Answer.the-variants.{Accepted}
 use Rattle.types.specs.declared.State.{State}
-use Rattle.rules.specs.Demand.{transferOf, meant, planned, lastly, onto}
+use Rattle.rules.specs.Demand.{transferOf, meant, planned, lastly}
 
 -- PROMISE live: with this file lent and an out buffer of at least the packet maximum, no step before the EOF is refused. So, by `early`, the EOF
 -- leaves once that many such steps were made.
@@ -100,7 +100,7 @@ Apart L k mark [] = Unit {0}
 Apart L k mark (turned ∷ es) = Apart L k mark es
 Apart L k mark (began ∷ es) = Apart L k mark es
 Apart L k mark (took bytes ∷ es) = Apart L (k + weights L (requests bytes)) mark es
-Apart L zero mark (went d ∷ es) = BeginsAt mark (dataIn d) × Apart L zero (onto (dataIn d) mark) es
+Apart L zero mark (went d ∷ es) = BeginsAt mark (dataIn d) × Apart L zero (mark + bytesOfData (dataIn d)) es
 Apart L (suc k) mark (went d ∷ es) = LiesBelow mark (dataIn d) × Apart L k mark es
 Apart L k mark (ended ∷ es) = Apart L k mark es
 

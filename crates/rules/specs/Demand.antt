@@ -3,11 +3,10 @@
 -- Assumes nothing.
 use mathlib.Core.Path.{_≡_}
 use mathlib.Core.Logic.{_↔_}
-use mathlib.Core.Bool.{Bool, true, false}
+use mathlib.Core.Bool.{Bool, true}
 use mathlib.Core.List.{List, [], _∷_, _++_, map}
 use mathlib.Core.Option.{Option, none, some}
 use Prim.Native.Nat.{ℕ, suc, _+_, _^_, _<_}
-use lib.Dec.{eqb}
 use lib.ListN.{length, take, drop}
 use Rattle.basis.specs.Pick.{_and_}
 use Rattle.basis.specs.Bytes.{Bytes}
@@ -81,24 +80,17 @@ lastly w = EofPdu (record { condition = 0; sum = sumOf (w .type) (w .file); size
 abbrev pub Front : {A : Type 0} → List A → List A → Type 0
 Front {A} xs ys = (rest : List A) × (xs ++ rest ≡ ys)
 
--- a piece of file data must begin where the one before ended; other PDUs are passed over
-abbrev pub onto : Option (ℕ × List ℕ) → ℕ → ℕ
-onto none at = at
-onto (some d) at = at + length (d .1)
-
-abbrev pub joinedTo : Bool → List ℕ → Option (List ℕ) → Option (List ℕ)
-joinedTo true d none = none
-joinedTo true d (some l) = some (d ++ l)
-joinedTo false d l = none
-
-abbrev pub placed : Option (ℕ × List ℕ) → ℕ → Option (List ℕ) → Option (List ℕ)
-placed none at l = l
-placed (some d) at l = joinedTo (eqb (d .0) at) (d .1) l
-
--- the file data of PDUs joined, if the first piece begins at `at` and each other where the one before ended
-unfoldable pub stretch : ℕ → List (List ℕ) → Option (List ℕ)
-stretch at [] = some []
-stretch at (b ∷ bs) = placed (fileDataOf b) at (stretch (onto (fileDataOf b) at) bs)
+-- From offset `at` on, the file data of these PDUs are `bytes`: a piece begins where the one before ended, and PDUs without file data are passed over.
+pub data Tiled : (at : ℕ) → (pdus : List (List ℕ)) → (bytes : List ℕ) → Type 0 where
+  end : (at : ℕ) → Tiled at [] []
+  piece :
+      (at : ℕ) (pdu : List ℕ) (pdus : List (List ℕ)) (d bytes : List ℕ)
+      → fileDataOf pdu ≡ some (at, d) → Tiled (at + length d) pdus bytes
+      → Tiled at (pdu ∷ pdus) (d ++ bytes)
+  other :
+      (at : ℕ) (pdu : List ℕ) (pdus : List (List ℕ)) (bytes : List ℕ)
+      → fileDataOf pdu ≡ none → Tiled at pdus bytes
+      → Tiled at (pdu ∷ pdus) bytes
 
 -- ---- the demand. es is what the calls since the put have shown, up to any moment before the EOF; L is w .segment, S is length (w .file)
 
@@ -126,7 +118,7 @@ pub record AtEof (w : Transfer) (es : List Shown) (d : List ℕ) : Type 0 where
   -- the metadata and the tiles have all left
   pub tiled : map decode (firstPass (w .segment) 0 es) ≡ map (meant w) (planned w)
   -- and their data, each piece behind the one before, are the file
-  pub bytes : stretch 0 (firstPass (w .segment) 0 es) ≡ some (w .file)
+  pub bytes : Tiled 0 (firstPass (w .segment) 0 es) (w .file)
   -- all that is owed has left
   pub answered : map decode (repairs (w .segment) 0 es) ≡ map (meant w) (repairsOwed (w .segment) es)
 
