@@ -3,40 +3,69 @@
 -- Assumes nothing.
 use mathlib.Core.Path.{_≡_, refl, sym, ap, _∙_}
 use mathlib.Core.Bool.{false, true≢false}
-use mathlib.Core.List.{List, [], _∷_, _++_, map, map-append, append-nil, append-assoc, append-cancel-right}
+use mathlib.Core.List.{List, [], _∷_, _++_, map, flatMap, map-append, append-nil, append-assoc, append-cancel-right}
 use mathlib.Core.Option.{Option, some}
 use Prim.Native.Nat.{ℕ, suc, _+_, _-_, _<_}
 use native.Mathlib.Nat.{sub-zero}
 use native.Mathlib.Omega.{arith}
 use lib.ListN.{length, length-append, length-map}
+use borrow.Author.Tests.{lt-ltb}
 use Rattle.rules.specs.Queues.{pending}
 use Rattle.rules_pdu.specs.Decoding.{decode}
 use Rattle.rules_pdu.specs.PduLaws.{Fit}
 use Rattle.rules.specs.Put.{putSpec}
 use Rattle.rules.specs.Tiles.{tiles, answers, weights}
-use Rattle.rules.specs.Runs.{Call, Shown, turned, began, took, went, ended, after, shows, trace, behind, Lends, stepCount, isEof, BeforeEof, NoPut, requests, repairsOwed, R, firstPass, repairs}
-use Rattle.rules.specs.Demand.{Transfer, meant, planned, lastly, eofStep, SoFar, AtEof, AtStep, ThirdDemand}
+use Rattle.rules.specs.Runs.{Call, Shown, turned, took, went, after, shows, trace, behind, Lends, requests, stepCount, requested, repairsOwed, R, Labelled, first, repair, labelled, ofFirst, ofRepair, firstPass, repairs, NoPut, BeforeEof}
+use Rattle.rules.specs.Demand.{Transfer, meant, planned, lastly, isEof, eofStep, SoFar, AtEof, AtStep, ThirdDemand}
 use Rattle.types.specs.declared.SegmentRequest.{SegmentRequest}
 use Rattle.types.specs.declared.State.{State}
 use Rattle.types.specs.declared.TransactionStep.{TransactionStep}
 use Rattle.types.specs.declared.TransactionStep.the-variants.{Idle, SendingMetadata, SendingFileData, SendingEof, WaitingForEofAck, WaitingForFinished, Closing}
 use Rattle.types.specs.declared.Sending.{Sending}
 use Rattle.types.specs.declared.Sending.the-variants.{Metadata as MetadataPdu}
-use Rattle.rules.proofs.Tiles.{length-tiles, length-answers, Within, within-append, tiles-within, sizes, sizes-tiles}
+use Rattle.rules.proofs.Tiles.{length-tiles, length-answers, answers-append, weights-append, Within, within-append, tiles-within, sizes, sizes-tiles}
+use Rattle.rules.proofs.Outcomes.{differ}
 use Rattle.rules.proofs.Emits.{bytesOf}
 use Rattle.rules.proofs.Hold.{plan, At, Inv, planOf, owedBy, none-owed, Does, DoesFrom, Moves, call-moves}
 use Rattle.rules.proofs.Stream.{Carries, last-read, all-read, small-no-eof, last-eof, planned-file, planned-within}
 use Rattle.rules.proofs.Begun.{put-passed, carries, begun, begun-step}
+
+-- ---- the labels from the state s on, by what the first call shows
+
+abbrev pub labelledFrom : Transfer → State → List Shown → List Labelled
+labelledFrom w s es = labelled (w .segment) (length (owedBy w s)) es
+
+module _ (w : Transfer) (s t : State) (es : List Shown) where
+  pub labels-turned : labelledFrom w s (turned ∷ es) ≡ labelledFrom w s es
+  unfolding labelled weights
+  labels-turned = ap (λ (n : ℕ). labelled (w .segment) n es) (omega arith)
+
+  pub labels-took : (bytes : List ℕ) → owedBy w t ≡ owedBy w s ++ answers (w .segment) (requests bytes) → labelledFrom w s (took bytes ∷ es) ≡ labelledFrom w t es
+  unfolding labelled
+  labels-took bytes q =
+      let l = ap length q in
+      let m = length-append (owedBy w s) (answers (w .segment) (requests bytes)) in
+      let n = length-answers (w .segment) (requests bytes) in
+      ap (λ (n : ℕ). labelled (w .segment) n es) (omega arith)
+
+  pub labels-first : (pdu : List ℕ) → owedBy w s ≡ [] → owedBy w t ≡ [] → labelledFrom w s (went (some pdu) ∷ es) ≡ first pdu ∷ labelledFrom w t es
+  unfolding labelled weights
+  labels-first pdu a b = rw (a, b) (ap (λ (n : ℕ). first pdu ∷ labelled (w .segment) n es) (omega arith))
+
+  pub labels-repair : (d : Sending) (pdu : List ℕ) → owedBy w s ≡ d ∷ owedBy w t → labelledFrom w s (went (some pdu) ∷ es) ≡ repair pdu ∷ labelledFrom w t es
+  unfolding labelled weights
+  labels-repair d pdu q =
+      let n = length (owedBy w t) in
+      rw (q, lt-ltb 0 (suc n) (omega arith)) (ap (λ (n : ℕ). repair pdu ∷ labelled (w .segment) n es) (omega arith))
 
 -- ---- what is kept from the state s over what calls show, es, to the state t
 
 pub record Kept (w : Transfer) (s : State) (es : List Shown) (t : State) : Type 0 where
   pub inv : Inv w t
   pub no-put : NoPut es
-  pub first : firstPass (w .segment) (length (owedBy w s)) es ++ map (bytesOf w) (planOf w t) ≡ map (bytesOf w) (planOf w s)
+  pub firstly : flatMap ofFirst (labelledFrom w s es) ++ map (bytesOf w) (planOf w t) ≡ map (bytesOf w) (planOf w s)
   pub repaired :
-      repairs (w .segment) (length (owedBy w s)) es ++ map (bytesOf w) (owedBy w t)
-      ≡ map (bytesOf w) (owedBy w s) ++ map (bytesOf w) (repairsOwed (w .segment) es)
+      flatMap ofRepair (labelledFrom w s es) ++ map (bytesOf w) (owedBy w t) ≡ map (bytesOf w) (owedBy w s) ++ map (bytesOf w) (repairsOwed (w .segment) es)
   pub within : Within (w .segment) (length (w .file)) (repairsOwed (w .segment) es)
   pub counted :
       stepCount es + length (owedBy w t) + length (planOf w t)
@@ -48,37 +77,39 @@ module _ (w : Transfer) (g : Fit (w .head)) (cs : List Call) (ih : (t : State) �
       → DoesFrom w s d t
       → BeforeEof (went (some (bytesOf w d)) ∷ trace cs t)
       → Kept w s (went (some (bytesOf w d)) ∷ trace cs t) (behind cs t)
-  unfolding firstPass repairs stepCount repairsOwed R
+  unfolding flatMap
   on-does s x y (Does.serves-one d t q p z m v j) f =
-      let k = ih t j (f .1) in
+      let k = ih t j (f .0 .1, f .1 .1) in
       let kc = k .counted in
       let lq = ap length q in
       let lp = ap length p in
+      let r = labels-repair w s t (trace cs t) d (bytesOf w d) q in
       record {
         inv = k .inv;
-        no-put = k .no-put;
-        first = rw q (k .first ∙ ap (map (bytesOf w)) p);
-        repaired = rw q (ap (λ (l : List (List ℕ)). bytesOf w d ∷ l) (k .repaired));
+        no-put = (λ e. differ cc, k .no-put);
+        firstly = rw r (k .firstly ∙ ap (map (bytesOf w)) p);
+        repaired = rw (r, q) (ap (λ (l : List (List ℕ)). bytesOf w d ∷ l) (k .repaired));
         within = k .within;
         counted = omega arith;
       }
   on-does s x y (Does.advances d t q u p z m j) f =
-      let k = ih t j (f .1) in
+      let k = ih t j (f .0 .1, f .1 .1) in
       let kc = k .counted in
       let qa = none-owed w s q in
       let qb = none-owed w t u in
       let la = ap length qa in
       let lb = ap length qb in
       let lp = ap length p in
+      let r = labels-first w s t (trace cs t) (bytesOf w d) qa qb in
       record {
         inv = k .inv;
-        no-put = k .no-put;
-        first = rw (qa, p) (ap (λ (l : List (List ℕ)). bytesOf w d ∷ l) (rw qb at (k .first)));
-        repaired = rw qa (rw qb at (k .repaired));
+        no-put = (λ e. differ cc, k .no-put);
+        firstly = rw (r, p) (ap (λ (l : List (List ℕ)). bytesOf w d ∷ l) (k .firstly));
+        repaired = rw (r, qa ∙ sym qb) (k .repaired);
         within = k .within;
         counted = omega arith;
       }
-  on-does s x y (Does.closes t q p) f = absurd (true≢false (sym (last-eof w g) ∙ f .0))
+  on-does s x y (Does.closes t q p) f = absurd (true≢false (sym (last-eof w g) ∙ f .1 .0))
 
   on-call :
       (s : State) (e : Shown) (t : State)
@@ -86,29 +117,35 @@ module _ (w : Transfer) (g : Fit (w .head)) (cs : List Call) (ih : (t : State) �
       → Moves w s e t
       → BeforeEof (e ∷ trace cs t)
       → Kept w s (e ∷ trace cs t) (behind cs t)
-  unfolding firstPass repairs stepCount repairsOwed R
+  unfolding flatMap
   on-call s x y i Moves.refuses f =
-      let k = ih s i f in
-      record { inv = k .inv; no-put = k .no-put; first = k .first; repaired = k .repaired; within = k .within; counted = k .counted }
+      let k = ih s i (f .0 .1, f .1) in
+      let r = labels-turned w s s (trace cs s) in
+      record { inv = k .inv; no-put = (λ e. differ cc, k .no-put); firstly = rw r (k .firstly); repaired = rw r (k .repaired); within = k .within; counted = k .counted }
   on-call s x y i (Moves.takes bytes t q p v m j) f =
       let L = w .segment in
-      let k = ih t j f in
+      let rs = requests bytes in
+      let es = requested (trace cs t) in
+      let k = ih t j (f .0 .1, f .1) in
       let kc = k .counted in
-      let lq : length (owedBy w t) ≡ length (owedBy w s) + weights L (requests bytes) =
-      ap length q ∙ length-append (owedBy w s) (answers L (requests bytes)) ∙ ap (λ (n : ℕ). length (owedBy w s) + n) (length-answers L (requests bytes)) in
+      let lq = ap length q in
+      let la = length-append (owedBy w s) (answers L rs) in
+      let ln = length-answers L rs in
       let lp = ap length p in
+      let lw = weights-append L rs es in
+      let r = labels-took w s t (trace cs t) bytes q in
       record {
         inv = k .inv;
-        no-put = k .no-put;
-        first = (rw lq at (k .first)) ∙ ap (map (bytesOf w)) p;
+        no-put = (λ e. differ cc, k .no-put);
+        firstly = rw r (k .firstly ∙ ap (map (bytesOf w)) p);
         repaired =
-            (rw lq at (k .repaired))
-            ∙ rw (q, map-append (bytesOf w) (owedBy w s) (answers L (requests bytes)), map-append (bytesOf w) (answers L (requests bytes)) (repairsOwed L (trace cs t)), append-assoc);
-        within = within-append L (length (w .file)) (answers L (requests bytes)) (repairsOwed L (trace cs t)) v (k .within);
+            rw r (k .repaired
+            ∙ rw (q, answers-append L rs es, map-append (bytesOf w) (owedBy w s) (answers L rs), map-append (bytesOf w) (answers L rs) (answers L es), append-assoc));
+        within = rw (answers-append L rs es) (within-append L (length (w .file)) (answers L rs) (answers L es) v (k .within));
         counted = omega arith;
       }
   on-call s x y i (Moves.emits d t z) f = on-does s d t z f
-  on-call s x y i (Moves.ends t) f = absurd f
+  on-call s x y i (Moves.ends t) f = absurd (f .0 .0 refl)
 
 -- over any run with no EOF yet
 pub kept :
@@ -117,9 +154,9 @@ pub kept :
     → Lends (w .file) cs
     → BeforeEof (trace cs s)
     → Kept w s (trace cs s) (behind cs s)
-unfolding trace behind firstPass repairs repairsOwed stepCount R
+unfolding trace behind flatMap labelled answers weights
 kept w g [] s i l f =
-    record { inv = i; no-put = tt; first = refl; repaired = sym (append-nil (map (bytesOf w) (owedBy w s))); within = tt; counted = omega arith }
+    record { inv = i; no-put = tt; firstly = refl; repaired = sym (append-nil (map (bytesOf w) (owedBy w s))); within = tt; counted = omega arith }
 kept w g (x ∷ cs) s i l f =
     on-call w g cs (λ t j b. kept w g cs t j (l .1) b) s (shows x s) (after x s) i (call-moves w s i x (l .0)) f
 
@@ -165,15 +202,6 @@ plan-pos w t i =
     let l = simp length-append at (ap length (r .split)) in
     omega arith
 
-length-repairsOwed : (L : ℕ) (es : List Shown) → length (repairsOwed L es) ≡ R L es
-unfolding repairsOwed R
-length-repairsOwed L [] = refl
-length-repairsOwed L (turned ∷ es) = length-repairsOwed L es
-length-repairsOwed L (began ∷ es) = length-repairsOwed L es
-length-repairsOwed L (took m ∷ es) = rw (length-append (answers L (requests m)) (repairsOwed L es), length-answers L (requests m), length-repairsOwed L es)
-length-repairsOwed L (went d ∷ es) = length-repairsOwed L es
-length-repairsOwed L (ended ∷ es) = length-repairsOwed L es
-
 pub at-start : (w : Transfer) (s : State) → Inv w s → s .step ≡ SendingMetadata → (pending (s .queue) ≡ []) × (s .file .progress ≡ 0)
 at-start w s i a = rw a at (i .here)
 
@@ -184,21 +212,21 @@ plan-is w s i a = rw (a, at-start w s i a .1, sub-zero (length (w .file)))
 
 module _ (w : Transfer) (c : Carries w) (s : State) (i : Inv w s) (a : s .step ≡ SendingMetadata) (es : List Shown) (t : State) (k : Kept w s es t) where
   -- what is sent, and what is still to come, besides repairs
-  first-pass : firstPass (w .segment) 0 es ++ map (bytesOf w) (planOf w t) ≡ map (bytesOf w) (planned w ++ lastly w ∷ [])
+  first-pass : firstPass (w .segment) es ++ map (bytesOf w) (planOf w t) ≡ map (bytesOf w) (planned w ++ lastly w ∷ [])
   first-pass =
       let z : length (owedBy w s) ≡ 0 = ap length (none-owed w s (at-start w s i a .0)) in
-      (rw z at (k .first)) ∙ ap (map (bytesOf w)) (plan-is w s i a)
+      (rw z at (k .firstly)) ∙ ap (map (bytesOf w)) (plan-is w s i a)
 
   -- without the EOF
-  pub first-cut : (r : List Sending) → planOf w t ≡ r ++ lastly w ∷ [] → firstPass (w .segment) 0 es ++ map (bytesOf w) r ≡ map (bytesOf w) (planned w)
+  pub first-cut : (r : List Sending) → planOf w t ≡ r ++ lastly w ∷ [] → firstPass (w .segment) es ++ map (bytesOf w) r ≡ map (bytesOf w) (planned w)
   first-cut r e =
-      append-cancel-right (firstPass (w .segment) 0 es ++ map (bytesOf w) r) (map (bytesOf w) (planned w)) (bytesOf w (lastly w) ∷ [])
-      (append-assoc (firstPass (w .segment) 0 es) (map (bytesOf w) r) (bytesOf w (lastly w) ∷ [])
-      ∙ ap (λ (l : List (List ℕ)). firstPass (w .segment) 0 es ++ l) (sym (map-append (bytesOf w) r (lastly w ∷ [])) ∙ ap (map (bytesOf w)) (sym e))
+      append-cancel-right (firstPass (w .segment) es ++ map (bytesOf w) r) (map (bytesOf w) (planned w)) (bytesOf w (lastly w) ∷ [])
+      (append-assoc (firstPass (w .segment) es) (map (bytesOf w) r) (bytesOf w (lastly w) ∷ [])
+      ∙ ap (λ (l : List (List ℕ)). firstPass (w .segment) es ++ l) (sym (map-append (bytesOf w) r (lastly w ∷ [])) ∙ ap (map (bytesOf w)) (sym e))
       ∙ first-pass
       ∙ map-append (bytesOf w) (planned w) (lastly w ∷ []))
 
-  repaired-all : repairs (w .segment) 0 es ++ map (bytesOf w) (owedBy w t) ≡ map (bytesOf w) (repairsOwed (w .segment) es)
+  repaired-all : repairs (w .segment) es ++ map (bytesOf w) (owedBy w t) ≡ map (bytesOf w) (repairsOwed (w .segment) es)
   repaired-all = rw (none-owed w s (at-start w s i a .0)) at (k .repaired)
 
   total : stepCount es + length (owedBy w t) + length (planOf w t) ≡ eofStep w es
@@ -219,15 +247,15 @@ module _ (w : Transfer) (c : Carries w) (s : State) (i : Inv w s) (a : s .step �
       let r = ending w t (k .inv) in
       let lf = simp (length-append, length-map) at (ap length first-pass) in
       let lr = simp (length-append, length-map) at (ap length repaired-all) in
-      let lo = length-repairsOwed (w .segment) es in
+      let lo = length-answers (w .segment) (requested es) in
       let lt = length-tiles (w .segment) 0 (length (w .file)) in
       let tot = total in
       let lp = plan-pos w t (k .inv) in
       record {
         early = omega arith;
         one-each = omega arith;
-        tiling = (map decode (map (bytesOf w) (r .front)), front-read (firstPass (w .segment) 0 es) (r .front) (planned w) (planned-within w c) (first-cut (r .front) (r .split)));
-        answering = (map decode (map (bytesOf w) (owedBy w t)), front-read (repairs (w .segment) 0 es) (owedBy w t) (repairsOwed (w .segment) es) (k .within) repaired-all);
+        tiling = (map decode (map (bytesOf w) (r .front)), front-read (firstPass (w .segment) es) (r .front) (planned w) (planned-within w c) (first-cut (r .front) (r .split)));
+        answering = (map decode (map (bytesOf w) (owedBy w t)), front-read (repairs (w .segment) es) (owedBy w t) (repairsOwed (w .segment) es) (k .within) repaired-all);
         no-put = k .no-put;
       }
 
@@ -240,9 +268,9 @@ module _ (w : Transfer) (c : Carries w) (s : State) (i : Inv w s) (a : s .step �
 
   at-last : pending (t .queue) ≡ [] → planOf w t ≡ lastly w ∷ [] → AtEof w es (bytesOf w (lastly w))
   at-last q l =
-      let all : firstPass (w .segment) 0 es ≡ map (bytesOf w) (planned w) = sym (append-nil (firstPass (w .segment) 0 es)) ∙ first-cut [] l in
-      let rep : repairs (w .segment) 0 es ≡ map (bytesOf w) (repairsOwed (w .segment) es) =
-      sym (append-nil (repairs (w .segment) 0 es)) ∙ (rw (none-owed w t q) at repaired-all) in
+      let all : firstPass (w .segment) es ≡ map (bytesOf w) (planned w) = sym (append-nil (firstPass (w .segment) es)) ∙ first-cut [] l in
+      let rep : repairs (w .segment) es ≡ map (bytesOf w) (repairsOwed (w .segment) es) =
+      sym (append-nil (repairs (w .segment) es)) ∙ (rw (none-owed w t q) at repaired-all) in
       record {
         says = last-read w c;
         tiled = rw all (all-read w c (planned w) (planned-within w c));
@@ -271,10 +299,10 @@ module _ (w : Transfer) (c : Carries w) (s : State) (i : Inv w s) (a : s .step �
       }
 
   on-next : (e : Shown) (u : State) (d : Option (List ℕ)) → Moves w t e u → e ≡ went d → AtStep w es d
-  on-next x y d Moves.refuses e = absurd (let z : _≡_ {A = ℕ} 0 1 = cc in omega arith)
-  on-next x y d (Moves.takes m u q p v n j) e = absurd (let z : _≡_ {A = ℕ} 0 1 = cc in omega arith)
+  on-next x y d Moves.refuses e = differ cc
+  on-next x y d (Moves.takes m u q p v n j) e = differ cc
   on-next x y d (Moves.emits b u z) e = let g : some (bytesOf w b) ≡ d = cc in rw g at (on-emitted b u z)
-  on-next x y d (Moves.ends u) e = absurd (let z : _≡_ {A = ℕ} 0 1 = cc in omega arith)
+  on-next x y d (Moves.ends u) e = differ cc
 
 -- ---- the demand
 

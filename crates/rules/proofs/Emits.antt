@@ -122,4 +122,4 @@ module _ (w : Transfer) (s : State) (z : Sends (s .fixed) (s .names) w) where
           StepShows w s (sendingOf s (w .file) (dueOf s expired)) (afterOf s (w .file) (dueOf s expired))
           (unless (r .answer) (went (pduIn (r .length) (pick b out (inFront (bytesDue s lent expired) out))))) (r .state)
       go true e = refuses
-      go false e = rw (l (same-length w s (length lent) z busy e)) (made-shows expired out)
+      go false e = rw (l lent expired out refl (same-length w s (length lent) z busy e)) (made-shows expired out)

@@ -38,12 +38,16 @@ use Rattle.types.specs.declared.Cancelled.{Cancelled}
 use Rattle.rules.proofs.Tiles.{Within}
 use Rattle.rules.proofs.Pending.{Orderly, answers-within, all-answers, orderly-all}
 
+-- two constructors differ: `cc` makes this equation of theirs
+pub differ : {A : Type 0} → _≡_ {A = ℕ} 0 1 → A
+differ e = absurd (omega arith)
+
 -- ---- put
 
 -- a test that passed
 pub passed : (b : Bool) (x : Answer) (r : Refusal) → pick b x (Refused r) ≡ Accepted → (b ≡ true) × (x ≡ Accepted)
 passed true x r e = (refl, e)
-passed false x r e = absurd (let z : _≡_ {A = ℕ} 0 1 = cc in omega arith)
+passed false x r e = differ cc
 
 pub answer-by : (s t : State) (x : Answer) → byAnswer s t x .answer ≡ x
 answer-by s t Accepted = refl

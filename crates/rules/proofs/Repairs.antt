@@ -2,8 +2,9 @@
 -- the next put; while something is owed and no other call is accepted, each step takes the head of what is owed.
 -- Assumes nothing.
 use mathlib.Core.Path.{_≡_, refl, sym, ap, _∙_}
+use mathlib.Core.Logic.{_⊎_, inl, inr}
 use mathlib.Core.Bool.{Bool, true, false, true≢false}
-use mathlib.Core.List.{List, [], _∷_, _++_, map}
+use mathlib.Core.List.{List, [], _∷_, _++_, map, flatMap}
 use mathlib.Core.Option.{Option, some}
 use Prim.Native.Nat.{ℕ, zero, suc, _+_, _≤_, _<_}
 use native.Mathlib.Omega.{arith}
@@ -20,7 +21,7 @@ use Rattle.rules.specs.Put.{putSpec}
 use Rattle.rules.specs.Deliver.{refused, accepted, nakOf, verdictOf, byVerdict, movedBy, asked, requestsIn, deliverSpec}
 use Rattle.rules.specs.Step.{actionFor, faultDue, ackExpired, checkExpired, eofOwed, dueAt, dueOf, sendingOf, repairOf, nextLength, afterCancelEof, afterMetadata, afterData, afterEof, afterOf, changed, made as madeStep, stepSpec}
 use Rattle.rules.specs.Tiles.{answers}
-use Rattle.rules.specs.Runs.{Call, put, deliver, step, cancel, reset, Shown, turned, began, took, went, ended, after, unless, shows, trace, behind, LendsIn, Lends, stepCount, NoPut, NoEnd, StepsOnly, requests, emitted}
+use Rattle.rules.specs.Runs.{Call, put, deliver, step, cancel, reset, Shown, turned, began, took, went, ended, after, unless, shows, trace, behind, LendsIn, Lends, requests, isStep, stepCount, emitted, NoPut, NoEnd, StepsOnly}
 use Rattle.rules.specs.Demand.{Transfer, transferOf, meant}
 use Rattle.rules.specs.Companions.{NakAnswered, BenchSheet}
 use Rattle.types.specs.declared.TransactionSeqNum.{TransactionSeqNum}
@@ -46,7 +47,7 @@ use Rattle.types.specs.declared.Done.{Done}
 use Rattle.types.specs.declared.Stepped.{Stepped}
 use Rattle.rules.proofs.Tiles.{length-answers}
 use Rattle.rules.proofs.Pending.{pending-none, Orderly, orderly-empty, orderly-more, served-answers, orderly-served}
-use Rattle.rules.proofs.Outcomes.{put-by, cancel-by, delivered-by, Naks, nak-adds}
+use Rattle.rules.proofs.Outcomes.{differ, put-by, cancel-by, delivered-by, Naks, nak-adds}
 use Rattle.rules.proofs.Emits.{bytesOf, Sends, StepShows, step-shows}
 use Rattle.rules.proofs.Hold.{Inv, sent-le, owedBy, none-owed, not-idle, small-repair, small-some}
 use Rattle.rules.proofs.Stream.{Carries, all-read}
@@ -252,20 +253,6 @@ module _ (w : Transfer) (pos : 0 < w .segment) (s : State) (l : Loose w s) where
   call-keeps (cancel source number) k = cancel-by s (Keeps w) (keeps turned s l) (finishes _) source number
   call-keeps reset k = finishes _
 
-no-end-rest : (e : Shown) (es : List Shown) → NoEnd (e ∷ es) → NoEnd es
-no-end-rest turned es h = h
-no-end-rest began es h = h
-no-end-rest (took m) es h = h
-no-end-rest (went d) es h = h
-no-end-rest ended es h = absurd h
-
-no-put-rest : (e : Shown) (es : List Shown) → NoPut (e ∷ es) → NoPut es
-no-put-rest turned es h = h
-no-put-rest began es h = absurd h
-no-put-rest (took m) es h = h
-no-put-rest (went d) es h = h
-no-put-rest ended es h = h
-
 run-keeps : (w : Transfer) → 0 < w .segment → (cs : List Call) (s : State) → Loose w s → Lends (w .file) cs → NoEnd (trace cs s) → NoPut (trace cs s)
     → Loose w (behind cs s)
 unfolding trace behind
@@ -276,9 +263,9 @@ run-keeps w pos (c ∷ cs) s l k f g = go (shows c s) (after c s) (call-keeps w 
         (e : Shown) (t : State) → Keeps w e t
         → ((u : State) → Loose w u → NoEnd (trace cs u) → NoPut (trace cs u) → Loose w (behind cs u))
         → NoEnd (e ∷ trace cs t) → NoPut (e ∷ trace cs t) → Loose w (behind cs t)
-    go x y (Keeps.keeps e t j) ih f g = ih t j (no-end-rest e (trace cs t) f) (no-put-rest e (trace cs t) g)
-    go x y (Keeps.begins t) ih f g = absurd g
-    go x y (Keeps.finishes t) ih f g = absurd f
+    go x y (Keeps.keeps e t j) ih f g = ih t j (f .1) (g .1)
+    go x y (Keeps.begins t) ih f g = absurd (g .0 refl)
+    go x y (Keeps.finishes t) ih f g = absurd (f .0 refl)
 
 -- ---- what is owed is served
 
@@ -352,12 +339,16 @@ module _ (w : Transfer) (pos : 0 < w .segment) (s : State) (v : Serving w s) whe
   call-goes (cancel source number) k = cancel-by s (Goes w s) stays (ends-it _) source number
   call-goes reset k = ends-it _
 
+no-step : (e : Shown) → isStep e ≡ false → ¬ (e ≡ turned) → (e ≡ turned) ⊎ (isStep e ≡ true) → ⊥
+no-step e a b (inl c) = b c
+no-step e a b (inr c) = true≢false (sym c ∙ a)
+
 -- as many steps as are owed emit what is owed
 served-all :
     (w : Transfer) → 0 < w .segment → (ds : List Call) (s : State) → Serving w s → Lends (w .file) ds → StepsOnly (trace ds s)
     → stepCount (trace ds s) ≤ length (owedBy w s)
     → emitted (trace ds s) ≡ take (stepCount (trace ds s)) (map (bytesOf w) (owedBy w s))
-unfolding trace stepCount emitted
+unfolding trace flatMap
 served-all w pos [] s v l f n = refl
 served-all w pos (c ∷ ds) s v l f n =
     go (shows c s) (after c s) (call-goes w pos s v c (l .0)) (λ t u. served-all w pos ds t u (l .1)) f n
@@ -368,13 +359,13 @@ served-all w pos (c ∷ ds) s v l f n =
         → emitted (trace ds u) ≡ take (stepCount (trace ds u)) (map (bytesOf w) (owedBy w u)))
         → StepsOnly (e ∷ trace ds t) → stepCount (e ∷ trace ds t) ≤ length (owedBy w s)
         → emitted (e ∷ trace ds t) ≡ take (stepCount (e ∷ trace ds t)) (map (bytesOf w) (owedBy w s))
-    go x y Goes.stays ih f n = ih s v f n
+    go x y Goes.stays ih f n = ih s v (f .1) n
     go x y (Goes.serves-next d t q u) ih f n =
         let lq = ap length q in
-        rw q (ap (λ (l : List (List ℕ)). bytesOf w d ∷ l) (ih t u f (omega arith)))
+        rw q (ap (λ (l : List (List ℕ)). bytesOf w d ∷ l) (ih t u (f .1) (omega arith)))
     go x y (Goes.runs-out d t q) ih f n = let lq = ap length q in absurd (omega arith)
-    go x y (Goes.takes-other m t) ih f n = absurd f
-    go x y (Goes.ends-it t) ih f n = absurd f
+    go x y (Goes.takes-other m t) ih f n = absurd (no-step (took m) refl (λ e. differ cc) (f .0))
+    go x y (Goes.ends-it t) ih f n = absurd (no-step ended refl (λ e. differ cc) (f .0))
 
 -- ---- the promises
 
@@ -390,7 +381,7 @@ all-served :
     → let all = owedBy w s ++ answers (w .segment) (requests bytes) in
     stepCount (trace ds (r .state)) ≤ length all
     → map decode (emitted (trace ds (r .state))) ≡ take (stepCount (trace ds (r .state))) (map (meant w) all)
-all-served w c s l bytes p r (Heeds.turns n) a ds k f h = absurd (let z : _≡_ {A = ℕ} 0 1 = cc in omega arith)
+all-served w c s l bytes p r (Heeds.turns n) a ds k f h = differ cc
 all-served w c s l bytes p r (Heeds.adds t m o b) a ds k f h =
     let lo = ap length o in
     let v : Serving w t = record { busy = b; unmarked = m } in

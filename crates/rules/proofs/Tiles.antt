@@ -213,3 +213,8 @@ pub answers-append : (L : ℕ) (q k : List SegmentRequest) → answers L (q ++ k
 unfolding answers
 answers-append L [] k = refl
 answers-append L (r ∷ q) k = rw (answers-append L q k, append-assoc (answer L r) (answers L q) (answers L k))
+
+pub weights-append : (L : ℕ) (q k : List SegmentRequest) → weights L (q ++ k) ≡ weights L q + weights L k
+unfolding weights
+weights-append L [] k = omega arith
+weights-append L (r ∷ q) k = let i = weights-append L q k in omega arith

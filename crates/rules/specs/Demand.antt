@@ -3,7 +3,7 @@
 -- Assumes nothing.
 use mathlib.Core.Path.{_≡_}
 use mathlib.Core.Logic.{_↔_}
-use mathlib.Core.Bool.{Bool, true}
+use mathlib.Core.Bool.{Bool, true, false}
 use mathlib.Core.List.{List, [], _∷_, _++_, map}
 use mathlib.Core.Option.{Option, none, some}
 use Prim.Native.Nat.{ℕ, suc, _+_, _^_, _<_}
@@ -13,10 +13,10 @@ use Rattle.basis.specs.Bytes.{Bytes}
 use Rattle.rules_pdu.specs.Numbers.{segmentLength}
 use Rattle.rules_leaves.specs.Checksum.{sumOf}
 use Rattle.rules_pdu.specs.Layout.{Said, metadata, fileData, eof, ackFinished, Pdu}
-use Rattle.rules_pdu.specs.Decoding.{withHead, decode, fileDataOf}
+use Rattle.rules_pdu.specs.Decoding.{withHead, decode, isEofIn, fileDataOf}
 use Rattle.rules.specs.Put.{entryOf, chosen, headOf, putSpec}
 use Rattle.rules.specs.Tiles.{ceil, tiles}
-use Rattle.rules.specs.Runs.{Call, Shown, went, shows, trace, behind, LendsIn, Lends, stepCount, isEof, BeforeEof, NoPut, repairsOwed, R, firstPass, repairs}
+use Rattle.rules.specs.Runs.{Call, Shown, went, shows, trace, behind, LendsIn, Lends, stepCount, BeforeEof, NoPut, repairsOwed, R, firstPass, repairs}
 use Rattle.types.specs.declared.TransactionSeqNum.{TransactionSeqNum}
 use Rattle.types.specs.declared.Head.{Head}
 use Rattle.types.specs.declared.RemoteEntityConfig.{RemoteEntityConfig}
@@ -92,6 +92,11 @@ pub data Tiled : (at : ℕ) → (pdus : List (List ℕ)) → (bytes : List ℕ) 
       → fileDataOf pdu ≡ none → Tiled at pdus bytes
       → Tiled at (pdu ∷ pdus) bytes
 
+-- is what a step emitted an EOF
+abbrev pub isEof : Option (List ℕ) → Bool
+isEof none = false
+isEof (some pdu) = isEofIn pdu
+
 -- ---- the demand. es is what the calls since the put have shown, up to any moment before the EOF; L is w .segment, S is length (w .file)
 
 -- "the unrefused step numbered 2 + ceil(S/L) + R"; R counts the NAKs accepted so far
@@ -103,29 +108,29 @@ pub record SoFar (w : Transfer) (es : List Shown) : Type 0 where
   -- the EOF's step is still to come
   pub early : stepCount es < eofStep w es
   -- each unrefused step has emitted one PDU
-  pub one-each : stepCount es ≡ length (firstPass (w .segment) 0 es) + length (repairs (w .segment) 0 es)
+  pub one-each : stepCount es ≡ length (firstPass (w .segment) es) + length (repairs (w .segment) es)
   -- those not owed to a NAK, read by the other side, are the first of the metadata and the file's tiles
-  pub tiling : Front (map decode (firstPass (w .segment) 0 es)) (map (meant w) (planned w))
+  pub tiling : Front (map decode (firstPass (w .segment) es)) (map (meant w) (planned w))
   -- those owed, read, are the first of the answers to the requests, in order
-  pub answering : Front (map decode (repairs (w .segment) 0 es)) (map (meant w) (repairsOwed (w .segment) es))
+  pub answering : Front (map decode (repairs (w .segment) es)) (map (meant w) (repairsOwed (w .segment) es))
   -- no other put was accepted
   pub no-put : NoPut es
 
--- when the EOF d leaves
-pub record AtEof (w : Transfer) (es : List Shown) (d : List ℕ) : Type 0 where
+-- when the EOF `pdu` leaves
+pub record AtEof (w : Transfer) (es : List Shown) (pdu : List ℕ) : Type 0 where
   -- read, it says NoError, the file's checksum and S
-  pub says : decode d ≡ meant w (lastly w)
+  pub says : decode pdu ≡ meant w (lastly w)
   -- the metadata and the tiles have all left
-  pub tiled : map decode (firstPass (w .segment) 0 es) ≡ map (meant w) (planned w)
+  pub tiled : map decode (firstPass (w .segment) es) ≡ map (meant w) (planned w)
   -- and their data, each piece behind the one before, are the file
-  pub bytes : Tiled 0 (firstPass (w .segment) 0 es) (w .file)
+  pub bytes : Tiled 0 (firstPass (w .segment) es) (w .file)
   -- all that is owed has left
-  pub answered : map decode (repairs (w .segment) 0 es) ≡ map (meant w) (repairsOwed (w .segment) es)
+  pub answered : map decode (repairs (w .segment) es) ≡ map (meant w) (repairsOwed (w .segment) es)
 
--- The next unrefused step emits d: an EOF exactly if the step has that number.
+-- when the next unrefused step emits d: an EOF exactly if the step has that number
 pub record AtStep (w : Transfer) (es : List Shown) (d : Option (List ℕ)) : Type 0 where
   pub when : (isEof d ≡ true) ↔ (suc (stepCount es) ≡ eofStep w es)
-  pub what : isEof d ≡ true → (b : List ℕ) × (d ≡ some b) × AtEof w es b
+  pub what : isEof d ≡ true → (pdu : List ℕ) × (d ≡ some pdu) × AtEof w es pdu
 
 -- PROMISE third-demand: after an accepted put of a file on any handler, fresh or used, and any calls that lend this file and show no EOF, no cancel and
 -- no reset, what stands above: of all that they have shown, and of the next call, if it is an unrefused step. `decode` is the other side's reading, by

@@ -1,13 +1,15 @@
 -- A run: calls of any kind made one after another, what each shows the host, and what can be counted from that alone.
--- From the heading "what can be counted" on, nothing looks into the handler.
+-- From the heading "what can be counted" on, nothing looks into the handler. `flatMap f l` is f of each element of l, joined; `λ e. P` is P, said of e.
 -- Assumes nothing.
 use mathlib.Core.Path.{_≡_}
-use mathlib.Core.Bool.{Bool, false}
-use mathlib.Core.List.{List, [], _∷_, _++_}
+use mathlib.Core.Logic.{_⊎_}
+use mathlib.Core.Bool.{Bool, true, false}
+use mathlib.Core.List.{List, [], _∷_, _++_, map, flatMap}
 use mathlib.Core.Option.{Option, none, some}
 use Prim.Native.Nat.{ℕ, zero, suc, _+_, _-_}
+use lib.Dec.{ltb}
 use lib.ListN.{length, take}
-use Rattle.basis.specs.Pick.{pick}
+use Rattle.basis.specs.Pick.{pick, flag}
 use Rattle.basis.specs.Bytes.{part}
 use Rattle.rules_pdu.specs.Reading.{framedIn, bodyOf}
 use Rattle.rules_pdu.specs.Decoding.{isEofIn}
@@ -30,6 +32,18 @@ use Rattle.types.specs.declared.Answer.{Answer}
 use Rattle.types.specs.declared.Answer.the-variants.{Accepted, Refused}
 use Rattle.types.specs.declared.Sending.{Sending}
 use Rattle.types.specs.declared.State.{State}
+
+-- ---- lists
+
+-- each element has the property (`Unit {0}` always holds)
+abbrev pub All : {A : Type 0} → (A → Type 0) → List A → Type 0
+All P [] = Unit {0}
+All P (x ∷ xs) = P x × All P xs
+
+-- the elements that pass the test, in their order
+abbrev pub those : {A : Type 0} → (A → Bool) → List A → List A
+those test [] = []
+those test (x ∷ xs) = pick (test x) (x ∷ those test xs) (those test xs)
 
 -- ---- calls, and what they show
 
@@ -87,66 +101,12 @@ behind (c ∷ cs) s = behind cs (after c s)
 
 -- "the same file lent throughout": a step that lends as many bytes lends this file. (Steps that lend another length are refused by 30.)
 abbrev pub LendsIn : List ℕ → Call → Type 0
-LendsIn file (put c q a b S) = Unit {0}
-LendsIn file (deliver bytes) = Unit {0}
-LendsIn file (step lent expired out) = length lent ≡ length file → lent ≡ file
-LendsIn file (cancel source number) = Unit {0}
-LendsIn file reset = Unit {0}
+LendsIn file c = (lent : List ℕ) (expired : Bool) (out : List ℕ) → c ≡ step lent expired out → length lent ≡ length file → lent ≡ file
 
 abbrev pub Lends : List ℕ → List Call → Type 0
-Lends file [] = Unit {0}
-Lends file (c ∷ cs) = LendsIn file c × Lends file cs
+Lends file cs = All (LendsIn file) cs
 
--- ---- what can be counted from that
-
--- the steps that were not refused
-unfoldable pub stepCount : List Shown → ℕ
-stepCount [] = 0
-stepCount (turned ∷ es) = stepCount es
-stepCount (began ∷ es) = stepCount es
-stepCount (took bytes ∷ es) = stepCount es
-stepCount (went d ∷ es) = suc (stepCount es)
-stepCount (ended ∷ es) = stepCount es
-
-abbrev pub isEof : Option (List ℕ) → Bool
-isEof none = false
-isEof (some b) = isEofIn b
-
--- no EOF has left, no cancel was taken and no reset was made
-abbrev pub BeforeEof : List Shown → Type 0
-BeforeEof [] = Unit {0}
-BeforeEof (turned ∷ es) = BeforeEof es
-BeforeEof (began ∷ es) = BeforeEof es
-BeforeEof (took bytes ∷ es) = BeforeEof es
-BeforeEof (went d ∷ es) = (isEof d ≡ false) × BeforeEof es
-BeforeEof (ended ∷ es) = ⊥
-
--- no put was accepted
-abbrev pub NoPut : List Shown → Type 0
-NoPut [] = Unit {0}
-NoPut (turned ∷ es) = NoPut es
-NoPut (began ∷ es) = ⊥
-NoPut (took bytes ∷ es) = NoPut es
-NoPut (went d ∷ es) = NoPut es
-NoPut (ended ∷ es) = NoPut es
-
--- no cancel was taken and no reset was made
-abbrev pub NoEnd : List Shown → Type 0
-NoEnd [] = Unit {0}
-NoEnd (turned ∷ es) = NoEnd es
-NoEnd (began ∷ es) = NoEnd es
-NoEnd (took bytes ∷ es) = NoEnd es
-NoEnd (went d ∷ es) = NoEnd es
-NoEnd (ended ∷ es) = ⊥
-
--- no call but steps was accepted
-abbrev pub StepsOnly : List Shown → Type 0
-StepsOnly [] = Unit {0}
-StepsOnly (turned ∷ es) = StepsOnly es
-StepsOnly (began ∷ es) = ⊥
-StepsOnly (took bytes ∷ es) = ⊥
-StepsOnly (went d ∷ es) = StepsOnly es
-StepsOnly (ended ∷ es) = ⊥
+-- ---- what can be counted
 
 -- the requests in a delivery's bytes: a NAK's pairs; none in any other
 abbrev pub requestsOfBody : List ℕ → Frame → Body → List SegmentRequest
@@ -161,51 +121,89 @@ requestsOfFrame bytes (Whole f) = requestsOfBody bytes f (bodyOf f (part bytes (
 unfoldable pub requests : List ℕ → List SegmentRequest
 requests bytes = requestsOfFrame bytes (framedIn bytes)
 
--- the PDUs that the NAKs accepted so far owe, in order; and R, the number of them
-unfoldable pub repairsOwed : ℕ → List Shown → List Sending
-repairsOwed L [] = []
-repairsOwed L (turned ∷ es) = repairsOwed L es
-repairsOwed L (began ∷ es) = repairsOwed L es
-repairsOwed L (took bytes ∷ es) = answers L (requests bytes) ++ repairsOwed L es
-repairsOwed L (went d ∷ es) = repairsOwed L es
-repairsOwed L (ended ∷ es) = repairsOwed L es
+-- of one entry of a run: the requests of an accepted delivery
+abbrev pub asks : Shown → List SegmentRequest
+asks turned = []
+asks began = []
+asks (took bytes) = requests bytes
+asks (went pdu) = []
+asks ended = []
 
-unfoldable pub R : ℕ → List Shown → ℕ
-R L [] = 0
-R L (turned ∷ es) = R L es
-R L (began ∷ es) = R L es
-R L (took bytes ∷ es) = weights L (requests bytes) + R L es
-R L (went d ∷ es) = R L es
-R L (ended ∷ es) = R L es
+-- the PDU that an unrefused step emitted
+abbrev pub emits : Shown → List (List ℕ)
+emits turned = []
+emits began = []
+emits (took bytes) = []
+emits (went none) = []
+emits (went (some pdu)) = pdu ∷ []
+emits ended = []
 
-abbrev pub list : Option (List ℕ) → List (List ℕ)
-list none = []
-list (some b) = b ∷ []
+-- is it an unrefused step
+abbrev pub isStep : Shown → Bool
+isStep turned = false
+isStep began = false
+isStep (took bytes) = false
+isStep (went pdu) = true
+isStep ended = false
+
+-- of a run: how many unrefused steps there were
+abbrev pub stepCount : List Shown → ℕ
+stepCount es = length (those isStep es)
 
 -- the emitted PDUs
-unfoldable pub emitted : List Shown → List (List ℕ)
-emitted [] = []
-emitted (turned ∷ es) = emitted es
-emitted (began ∷ es) = emitted es
-emitted (took bytes ∷ es) = emitted es
-emitted (went d ∷ es) = list d ++ emitted es
-emitted (ended ∷ es) = emitted es
+abbrev pub emitted : List Shown → List (List ℕ)
+emitted es = flatMap emits es
 
--- The emitted PDUs, told apart. k is how many PDUs are owed to NAKs and not yet emitted: while there are any, an emitted PDU is a repair.
-unfoldable pub firstPass : ℕ → ℕ → List Shown → List (List ℕ)
-firstPass L k [] = []
-firstPass L k (turned ∷ es) = firstPass L k es
-firstPass L k (began ∷ es) = firstPass L k es
-firstPass L k (took bytes ∷ es) = firstPass L (k + weights L (requests bytes)) es
-firstPass L zero (went d ∷ es) = list d ++ firstPass L zero es
-firstPass L (suc k) (went d ∷ es) = firstPass L k es
-firstPass L k (ended ∷ es) = firstPass L k es
+-- the requests of all NAKs accepted so far, the PDUs that they owe, in order, and R, the number of these
+abbrev pub requested : List Shown → List SegmentRequest
+requested es = flatMap asks es
 
-unfoldable pub repairs : ℕ → ℕ → List Shown → List (List ℕ)
-repairs L k [] = []
-repairs L k (turned ∷ es) = repairs L k es
-repairs L k (began ∷ es) = repairs L k es
-repairs L k (took bytes ∷ es) = repairs L (k + weights L (requests bytes)) es
-repairs L zero (went d ∷ es) = repairs L zero es
-repairs L (suc k) (went d ∷ es) = list d ++ repairs L k es
-repairs L k (ended ∷ es) = repairs L k es
+abbrev pub repairsOwed : ℕ → List Shown → List Sending
+repairsOwed L es = answers L (requested es)
+
+abbrev pub R : ℕ → List Shown → ℕ
+R L es = weights L (requested es)
+
+-- ---- first pass and repairs
+
+-- an emitted PDU is a repair if a PDU was owed to a NAK when it left, else it is of the first pass
+pub data Labelled : Type 0 where
+  first : (pdu : List ℕ) → Labelled
+  repair : (pdu : List ℕ) → Labelled
+
+-- The emitted PDUs. k is how many PDUs are owed to NAKs and have not left: an accepted NAK adds what it owes, an unrefused step takes one off.
+unfoldable pub labelled : ℕ → ℕ → List Shown → List Labelled
+labelled L k [] = []
+labelled L k (e ∷ es) = map (pick (ltb 0 k) repair first) (emits e) ++ labelled L (k + weights L (asks e) - flag (isStep e)) es
+
+abbrev pub ofFirst : Labelled → List (List ℕ)
+ofFirst (first pdu) = pdu ∷ []
+ofFirst (repair pdu) = []
+
+abbrev pub ofRepair : Labelled → List (List ℕ)
+ofRepair (first pdu) = []
+ofRepair (repair pdu) = pdu ∷ []
+
+abbrev pub firstPass : ℕ → List Shown → List (List ℕ)
+firstPass L es = flatMap ofFirst (labelled L 0 es)
+
+abbrev pub repairs : ℕ → List Shown → List (List ℕ)
+repairs L es = flatMap ofRepair (labelled L 0 es)
+
+-- ---- what a run does not show
+
+-- no put was accepted
+abbrev pub NoPut : List Shown → Type 0
+NoPut es = All (λ e. ¬ (e ≡ began)) es
+
+-- no cancel was taken and no reset was made
+abbrev pub NoEnd : List Shown → Type 0
+NoEnd es = All (λ e. ¬ (e ≡ ended)) es
+
+-- no EOF has left, no cancel was taken and no reset was made
+abbrev pub BeforeEof : List Shown → Type 0
+BeforeEof es = NoEnd es × All (λ pdu. isEofIn pdu ≡ false) (emitted es)
+
+-- no call but steps was accepted
+abbrev pub StepsOnly : List Shown → Type 0
+StepsOnly es = All (λ e. (e ≡ turned) ⊎ (isStep e ≡ true)) es
