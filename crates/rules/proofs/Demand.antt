@@ -43,9 +43,9 @@ module _ (w : Transfer) (s t : State) (es : List Shown) where
   pub labels-took : (bytes : List ℕ) → owedBy w t ≡ owedBy w s ++ answers (w .segment) (requests bytes) → labelledFrom w s (took bytes ∷ es) ≡ labelledFrom w t es
   unfolding labelled
   labels-took bytes q =
-      let l = ap length q in
-      let m = length-append (owedBy w s) (answers (w .segment) (requests bytes)) in
-      let n = length-answers (w .segment) (requests bytes) in
+      let lq = ap length q in
+      let la = length-append (owedBy w s) (answers (w .segment) (requests bytes)) in
+      let ln = length-answers (w .segment) (requests bytes) in
       ap (λ (n : ℕ). labelled (w .segment) n es) (omega arith)
 
   pub labels-first : (pdu : List ℕ) → owedBy w s ≡ [] → owedBy w t ≡ [] → labelledFrom w s (went (some pdu) ∷ es) ≡ first pdu ∷ labelledFrom w t es
@@ -55,8 +55,7 @@ module _ (w : Transfer) (s t : State) (es : List Shown) where
   pub labels-repair : (d : Sending) (pdu : List ℕ) → owedBy w s ≡ d ∷ owedBy w t → labelledFrom w s (went (some pdu) ∷ es) ≡ repair pdu ∷ labelledFrom w t es
   unfolding labelled weights
   labels-repair d pdu q =
-      let n = length (owedBy w t) in
-      rw (q, lt-ltb 0 (suc n) (omega arith)) (ap (λ (n : ℕ). repair pdu ∷ labelled (w .segment) n es) (omega arith))
+      rw (q, lt-ltb 0 (suc (length (owedBy w t))) (omega arith)) (ap (λ (n : ℕ). repair pdu ∷ labelled (w .segment) n es) (omega arith))
 
 -- ---- what is kept from the state s over what calls show, es, to the state t
 

@@ -136,7 +136,7 @@ pub data Does (w : Transfer) (q : List SegmentRequest) (k : TransactionStep) (p 
 abbrev pub DoesFrom : Transfer → State → Sending → State → Type 0
 DoesFrom w s d t = Does w (pending (s .queue)) (s .step) (s .file .progress) d t
 
--- what the host sees of a call, and the state after it
+-- what a call shows, and the state after it
 pub data Moves (w : Transfer) (s : State) : Shown → State → Type 0 where
   refuses : Moves w s turned s
   takes :
