@@ -36,14 +36,14 @@ use Rattle.types.specs.declared.Answer.the-variants.{Accepted, Refused}
 use Rattle.rules_leaves.proofs.Sums.{sum-lt}
 use Rattle.rules_pdu.proofs.Round.{size-fits}
 use Rattle.rules.proofs.Pending.{orderly-empty}
-use Rattle.rules.proofs.Outcomes.{passed, answer-by, state-by}
+use Rattle.rules.proofs.Outcomes.{differ, passed, answer-by, state-by}
 use Rattle.rules.proofs.Hold.{Inv}
 use Rattle.rules.proofs.Stream.{Carries}
 
 -- ---- the conditions that passed
 
 passed-not : (b : Bool) (x : Answer) (r : Refusal) → pick b (Refused r) x ≡ Accepted → b ≡ false
-passed-not true x r e = absurd (let z : _≡_ {A = ℕ} 0 1 = cc in omega arith)
+passed-not true x r e = differ cc
 passed-not false x r e = refl
 
 both : (a b : Bool) → pick a b false ≡ true → (a ≡ true) × (b ≡ true)

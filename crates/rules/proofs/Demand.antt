@@ -1,114 +1,150 @@
 -- The third demand. Over a run before the EOF, what was emitted and what is still planned or owed make up what was planned and owed (`Kept`);
 -- the number of the EOF's step is a length of this.
 -- Assumes nothing.
-use mathlib.Core.Path.{_≡_, refl, sym, ap, ap₂, _∙_}
+use mathlib.Core.Path.{_≡_, refl, sym, ap, _∙_}
 use mathlib.Core.Bool.{false, true≢false}
-use mathlib.Core.List.{List, [], _∷_, _++_, map, map-append, append-nil, append-assoc, append-cancel-right, nil≢cons, head-eq-of-cons-eq, tail-eq-of-cons-eq}
+use mathlib.Core.List.{List, [], _∷_, _++_, map, flatMap, map-append, append-nil, append-assoc, append-cancel-right}
 use mathlib.Core.Option.{Option, some}
 use Prim.Native.Nat.{ℕ, suc, _+_, _-_, _<_}
 use native.Mathlib.Nat.{sub-zero}
 use native.Mathlib.Omega.{arith}
 use lib.ListN.{length, length-append, length-map}
+use borrow.Author.Tests.{lt-ltb}
 use Rattle.rules.specs.Queues.{pending}
 use Rattle.rules_pdu.specs.Decoding.{decode}
 use Rattle.rules_pdu.specs.PduLaws.{Fit}
 use Rattle.rules.specs.Put.{putSpec}
 use Rattle.rules.specs.Tiles.{tiles, answers, weights}
-use Rattle.rules.specs.Runs.{Call, Event, turned, began, took, made, ended, after, seen, trace, behind, Lends, steps, isEof, BeforeEof, NoPut, requests, owed, R, firstPass, repairs}
-use Rattle.rules.specs.Demand.{Transfer, meant, planned, lastly, eofStep, SoFar, AtEof, AtStep, ThirdDemand}
+use Rattle.rules.specs.Runs.{Call, Shown, turned, took, went, after, shows, trace, behind, Lends, requests, stepCount, requested, repairsOwed, R, Labelled, first, repair, labelled, ofFirst, ofRepair, firstPass, repairs, NoPut, BeforeEof}
+use Rattle.rules.specs.Demand.{Transfer, meant, planned, lastly, isEof, eofStep, SoFar, AtEof, AtStep, ThirdDemand}
 use Rattle.types.specs.declared.SegmentRequest.{SegmentRequest}
 use Rattle.types.specs.declared.State.{State}
 use Rattle.types.specs.declared.TransactionStep.{TransactionStep}
 use Rattle.types.specs.declared.TransactionStep.the-variants.{Idle, SendingMetadata, SendingFileData, SendingEof, WaitingForEofAck, WaitingForFinished, Closing}
 use Rattle.types.specs.declared.Sending.{Sending}
 use Rattle.types.specs.declared.Sending.the-variants.{Metadata as MetadataPdu}
-use Rattle.rules.proofs.Tiles.{length-tiles, length-answers, Within, within-append, tiles-within, sizes, sizes-tiles}
+use Rattle.rules.proofs.Tiles.{length-tiles, length-answers, answers-append, weights-append, Within, within-append, tiles-within, sizes, sizes-tiles}
+use Rattle.rules.proofs.Outcomes.{differ}
 use Rattle.rules.proofs.Emits.{bytesOf}
 use Rattle.rules.proofs.Hold.{plan, At, Inv, planOf, owedBy, none-owed, Does, DoesFrom, Moves, call-moves}
 use Rattle.rules.proofs.Stream.{Carries, last-read, all-read, small-no-eof, last-eof, planned-file, planned-within}
 use Rattle.rules.proofs.Begun.{put-passed, carries, begun, begun-step}
 
--- ---- what is kept from the state s over the events es to the state t
+-- ---- the labels from the state s on, by what the first call shows
 
-pub record Kept (w : Transfer) (s : State) (es : List Event) (t : State) : Type 0 where
+abbrev pub labelledFrom : Transfer → State → List Shown → List Labelled
+labelledFrom w s es = labelled (w .segment) (length (owedBy w s)) es
+
+module _ (w : Transfer) (s t : State) (es : List Shown) where
+  pub labels-turned : labelledFrom w s (turned ∷ es) ≡ labelledFrom w s es
+  unfolding labelled weights
+  labels-turned = ap (λ (n : ℕ). labelled (w .segment) n es) (omega arith)
+
+  pub labels-took : (bytes : List ℕ) → owedBy w t ≡ owedBy w s ++ answers (w .segment) (requests bytes) → labelledFrom w s (took bytes ∷ es) ≡ labelledFrom w t es
+  unfolding labelled
+  labels-took bytes q =
+      let lq = ap length q in
+      let la = length-append (owedBy w s) (answers (w .segment) (requests bytes)) in
+      let ln = length-answers (w .segment) (requests bytes) in
+      ap (λ (n : ℕ). labelled (w .segment) n es) (omega arith)
+
+  pub labels-first : (pdu : List ℕ) → owedBy w s ≡ [] → owedBy w t ≡ [] → labelledFrom w s (went (some pdu) ∷ es) ≡ first pdu ∷ labelledFrom w t es
+  unfolding labelled weights
+  labels-first pdu a b = rw (a, b) (ap (λ (n : ℕ). first pdu ∷ labelled (w .segment) n es) (omega arith))
+
+  pub labels-repair : (d : Sending) (pdu : List ℕ) → owedBy w s ≡ d ∷ owedBy w t → labelledFrom w s (went (some pdu) ∷ es) ≡ repair pdu ∷ labelledFrom w t es
+  unfolding labelled weights
+  labels-repair d pdu q =
+      rw (q, lt-ltb 0 (suc (length (owedBy w t))) (omega arith)) (ap (λ (n : ℕ). repair pdu ∷ labelled (w .segment) n es) (omega arith))
+
+-- ---- what is kept from the state s over what calls show, es, to the state t
+
+pub record Kept (w : Transfer) (s : State) (es : List Shown) (t : State) : Type 0 where
   pub inv : Inv w t
   pub no-put : NoPut es
-  pub first : firstPass (w .segment) (length (owedBy w s)) es ++ map (bytesOf w) (planOf w t) ≡ map (bytesOf w) (planOf w s)
+  pub firstly : flatMap ofFirst (labelledFrom w s es) ++ map (bytesOf w) (planOf w t) ≡ map (bytesOf w) (planOf w s)
   pub repaired :
-      repairs (w .segment) (length (owedBy w s)) es ++ map (bytesOf w) (owedBy w t)
-      ≡ map (bytesOf w) (owedBy w s) ++ map (bytesOf w) (owed (w .segment) es)
-  pub within : Within (w .segment) (length (w .file)) (owed (w .segment) es)
+      flatMap ofRepair (labelledFrom w s es) ++ map (bytesOf w) (owedBy w t) ≡ map (bytesOf w) (owedBy w s) ++ map (bytesOf w) (repairsOwed (w .segment) es)
+  pub within : Within (w .segment) (length (w .file)) (repairsOwed (w .segment) es)
   pub counted :
-      steps es + length (owedBy w t) + length (planOf w t)
+      stepCount es + length (owedBy w t) + length (planOf w t)
       ≡ length (owedBy w s) + length (planOf w s) + R (w .segment) es
 
 module _ (w : Transfer) (g : Fit (w .head)) (cs : List Call) (ih : (t : State) → Inv w t → BeforeEof (trace cs t) → Kept w t (trace cs t) (behind cs t)) where
   on-does :
       (s : State) (d : Sending) (t : State)
       → DoesFrom w s d t
-      → BeforeEof (made (some (bytesOf w d)) ∷ trace cs t)
-      → Kept w s (made (some (bytesOf w d)) ∷ trace cs t) (behind cs t)
-  unfolding firstPass repairs steps owed R
+      → BeforeEof (went (some (bytesOf w d)) ∷ trace cs t)
+      → Kept w s (went (some (bytesOf w d)) ∷ trace cs t) (behind cs t)
+  unfolding flatMap
   on-does s x y (Does.serves-one d t q p z m v j) f =
-      let k = ih t j (f .1) in
+      let k = ih t j (f .0 .1, f .1 .1) in
       let kc = k .counted in
       let lq = ap length q in
       let lp = ap length p in
+      let r = labels-repair w s t (trace cs t) d (bytesOf w d) q in
       record {
         inv = k .inv;
-        no-put = k .no-put;
-        first = rw q (k .first ∙ ap (map (bytesOf w)) p);
-        repaired = rw q (ap (λ (l : List (List ℕ)). bytesOf w d ∷ l) (k .repaired));
+        no-put = (λ e. differ cc, k .no-put);
+        firstly = rw r (k .firstly ∙ ap (map (bytesOf w)) p);
+        repaired = rw (r, q) (ap (λ (l : List (List ℕ)). bytesOf w d ∷ l) (k .repaired));
         within = k .within;
         counted = omega arith;
       }
   on-does s x y (Does.advances d t q u p z m j) f =
-      let k = ih t j (f .1) in
+      let k = ih t j (f .0 .1, f .1 .1) in
       let kc = k .counted in
       let qa = none-owed w s q in
       let qb = none-owed w t u in
       let la = ap length qa in
       let lb = ap length qb in
       let lp = ap length p in
+      let r = labels-first w s t (trace cs t) (bytesOf w d) qa qb in
       record {
         inv = k .inv;
-        no-put = k .no-put;
-        first = rw (qa, p) (ap (λ (l : List (List ℕ)). bytesOf w d ∷ l) (rw qb at (k .first)));
-        repaired = rw qa (rw qb at (k .repaired));
+        no-put = (λ e. differ cc, k .no-put);
+        firstly = rw (r, p) (ap (λ (l : List (List ℕ)). bytesOf w d ∷ l) (k .firstly));
+        repaired = rw (r, qa ∙ sym qb) (k .repaired);
         within = k .within;
         counted = omega arith;
       }
-  on-does s x y (Does.closes t q p) f = absurd (true≢false (sym (last-eof w g) ∙ f .0))
+  on-does s x y (Does.closes t q p) f = absurd (true≢false (sym (last-eof w g) ∙ f .1 .0))
 
   on-call :
-      (s : State) (e : Event) (t : State)
+      (s : State) (e : Shown) (t : State)
       → Inv w s
       → Moves w s e t
       → BeforeEof (e ∷ trace cs t)
       → Kept w s (e ∷ trace cs t) (behind cs t)
-  unfolding firstPass repairs steps owed R
+  unfolding flatMap
   on-call s x y i Moves.refuses f =
-      let k = ih s i f in
-      record { inv = k .inv; no-put = k .no-put; first = k .first; repaired = k .repaired; within = k .within; counted = k .counted }
+      let k = ih s i (f .0 .1, f .1) in
+      let r = labels-turned w s s (trace cs s) in
+      record { inv = k .inv; no-put = (λ e. differ cc, k .no-put); firstly = rw r (k .firstly); repaired = rw r (k .repaired); within = k .within; counted = k .counted }
   on-call s x y i (Moves.takes bytes t q p v m j) f =
       let L = w .segment in
-      let k = ih t j f in
+      let rs = requests bytes in
+      let es = requested (trace cs t) in
+      let k = ih t j (f .0 .1, f .1) in
       let kc = k .counted in
-      let lq : length (owedBy w t) ≡ length (owedBy w s) + weights L (requests bytes) =
-      ap length q ∙ length-append (owedBy w s) (answers L (requests bytes)) ∙ ap (λ (n : ℕ). length (owedBy w s) + n) (length-answers L (requests bytes)) in
+      let lq = ap length q in
+      let la = length-append (owedBy w s) (answers L rs) in
+      let ln = length-answers L rs in
       let lp = ap length p in
+      let lw = weights-append L rs es in
+      let r = labels-took w s t (trace cs t) bytes q in
       record {
         inv = k .inv;
-        no-put = k .no-put;
-        first = (rw lq at (k .first)) ∙ ap (map (bytesOf w)) p;
+        no-put = (λ e. differ cc, k .no-put);
+        firstly = rw r (k .firstly ∙ ap (map (bytesOf w)) p);
         repaired =
-            (rw lq at (k .repaired))
-            ∙ rw (q, map-append (bytesOf w) (owedBy w s) (answers L (requests bytes)), map-append (bytesOf w) (answers L (requests bytes)) (owed L (trace cs t)), append-assoc);
-        within = within-append L (length (w .file)) (answers L (requests bytes)) (owed L (trace cs t)) v (k .within);
+            rw r (k .repaired
+            ∙ rw (q, answers-append L rs es, map-append (bytesOf w) (owedBy w s) (answers L rs), map-append (bytesOf w) (answers L rs) (answers L es), append-assoc));
+        within = rw (answers-append L rs es) (within-append L (length (w .file)) (answers L rs) (answers L es) v (k .within));
         counted = omega arith;
       }
   on-call s x y i (Moves.emits d t z) f = on-does s d t z f
-  on-call s x y i (Moves.ends t) f = absurd f
+  on-call s x y i (Moves.ends t) f = absurd (f .0 .0 refl)
 
 -- over any run with no EOF yet
 pub kept :
@@ -117,37 +153,13 @@ pub kept :
     → Lends (w .file) cs
     → BeforeEof (trace cs s)
     → Kept w s (trace cs s) (behind cs s)
-unfolding trace behind firstPass repairs owed steps R
+unfolding trace behind flatMap labelled answers weights
 kept w g [] s i l f =
-    record { inv = i; no-put = tt; first = refl; repaired = sym (append-nil (map (bytesOf w) (owedBy w s))); within = tt; counted = omega arith }
+    record { inv = i; no-put = tt; firstly = refl; repaired = sym (append-nil (map (bytesOf w) (owedBy w s))); within = tt; counted = omega arith }
 kept w g (x ∷ cs) s i l f =
-    on-call w g cs (λ t j b. kept w g cs t j (l .1) b) s (seen x s) (after x s) i (call-moves w s i x (l .0)) f
+    on-call w g cs (λ t j b. kept w g cs t j (l .1) b) s (shows x s) (after x s) i (call-moves w s i x (l .0)) f
 
--- ---- the place in a run
-
--- a first part of a run's events are a run's events
-record Place (file : List ℕ) (s : State) (es fs : List Event) : Type 0 where
-  before : List Call
-  rest : List Call
-  shown : trace before s ≡ es
-  coming : trace rest (behind before s) ≡ fs
-  lends-before : Lends file before
-  lends-rest : Lends file rest
-
-place : (file : List ℕ) (cs : List Call) (s : State) (es fs : List Event) → Lends file cs → trace cs s ≡ es ++ fs → Place file s es fs
-unfolding trace behind
-place file cs s [] fs l e = record { before = []; rest = cs; shown = refl; coming = e; lends-before = tt; lends-rest = l }
-place file [] s (v ∷ es) fs l e = absurd (nil≢cons e)
-place file (c ∷ cs) s (v ∷ es) fs l e =
-    let k = place file cs (after c s) es fs (l .1) (tail-eq-of-cons-eq e) in
-    record {
-      before = c ∷ k .before;
-      rest = k .rest;
-      shown = ap₂ (λ (a : Event) (b : List Event). a ∷ b) (head-eq-of-cons-eq e) (k .shown);
-      coming = k .coming;
-      lends-before = (l .0, k .lends-before);
-      lends-rest = k .lends-rest;
-    }
+-- ---- what is left to send
 
 -- the plan's end is the EOF; before it stands what can be read, with all bytes that are still to be sent
 pub record Ends (w : Transfer) (l : List Sending) (p : ℕ) : Type 0 where
@@ -189,15 +201,6 @@ plan-pos w t i =
     let l = simp length-append at (ap length (r .split)) in
     omega arith
 
-length-owed : (L : ℕ) (es : List Event) → length (owed L es) ≡ R L es
-unfolding owed R
-length-owed L [] = refl
-length-owed L (turned ∷ es) = length-owed L es
-length-owed L (began ∷ es) = length-owed L es
-length-owed L (took m ∷ es) = rw (length-append (answers L (requests m)) (owed L es), length-answers L (requests m), length-owed L es)
-length-owed L (made d ∷ es) = length-owed L es
-length-owed L (ended ∷ es) = length-owed L es
-
 pub at-start : (w : Transfer) (s : State) → Inv w s → s .step ≡ SendingMetadata → (pending (s .queue) ≡ []) × (s .file .progress ≡ 0)
 at-start w s i a = rw a at (i .here)
 
@@ -206,26 +209,26 @@ plan-is w s i a = rw (a, at-start w s i a .1, sub-zero (length (w .file)))
 
 -- ---- before the EOF, from the state that a put made
 
-module _ (w : Transfer) (c : Carries w) (s : State) (i : Inv w s) (a : s .step ≡ SendingMetadata) (es : List Event) (t : State) (k : Kept w s es t) where
+module _ (w : Transfer) (c : Carries w) (s : State) (i : Inv w s) (a : s .step ≡ SendingMetadata) (es : List Shown) (t : State) (k : Kept w s es t) where
   -- what is sent, and what is still to come, besides repairs
-  first-pass : firstPass (w .segment) 0 es ++ map (bytesOf w) (planOf w t) ≡ map (bytesOf w) (planned w ++ lastly w ∷ [])
+  first-pass : firstPass (w .segment) es ++ map (bytesOf w) (planOf w t) ≡ map (bytesOf w) (planned w ++ lastly w ∷ [])
   first-pass =
       let z : length (owedBy w s) ≡ 0 = ap length (none-owed w s (at-start w s i a .0)) in
-      (rw z at (k .first)) ∙ ap (map (bytesOf w)) (plan-is w s i a)
+      (rw z at (k .firstly)) ∙ ap (map (bytesOf w)) (plan-is w s i a)
 
   -- without the EOF
-  pub first-cut : (r : List Sending) → planOf w t ≡ r ++ lastly w ∷ [] → firstPass (w .segment) 0 es ++ map (bytesOf w) r ≡ map (bytesOf w) (planned w)
+  pub first-cut : (r : List Sending) → planOf w t ≡ r ++ lastly w ∷ [] → firstPass (w .segment) es ++ map (bytesOf w) r ≡ map (bytesOf w) (planned w)
   first-cut r e =
-      append-cancel-right (firstPass (w .segment) 0 es ++ map (bytesOf w) r) (map (bytesOf w) (planned w)) (bytesOf w (lastly w) ∷ [])
-      (append-assoc (firstPass (w .segment) 0 es) (map (bytesOf w) r) (bytesOf w (lastly w) ∷ [])
-      ∙ ap (λ (l : List (List ℕ)). firstPass (w .segment) 0 es ++ l) (sym (map-append (bytesOf w) r (lastly w ∷ [])) ∙ ap (map (bytesOf w)) (sym e))
+      append-cancel-right (firstPass (w .segment) es ++ map (bytesOf w) r) (map (bytesOf w) (planned w)) (bytesOf w (lastly w) ∷ [])
+      (append-assoc (firstPass (w .segment) es) (map (bytesOf w) r) (bytesOf w (lastly w) ∷ [])
+      ∙ ap (λ (l : List (List ℕ)). firstPass (w .segment) es ++ l) (sym (map-append (bytesOf w) r (lastly w ∷ [])) ∙ ap (map (bytesOf w)) (sym e))
       ∙ first-pass
       ∙ map-append (bytesOf w) (planned w) (lastly w ∷ []))
 
-  repaired-all : repairs (w .segment) 0 es ++ map (bytesOf w) (owedBy w t) ≡ map (bytesOf w) (owed (w .segment) es)
+  repaired-all : repairs (w .segment) es ++ map (bytesOf w) (owedBy w t) ≡ map (bytesOf w) (repairsOwed (w .segment) es)
   repaired-all = rw (none-owed w s (at-start w s i a .0)) at (k .repaired)
 
-  total : steps es + length (owedBy w t) + length (planOf w t) ≡ eofStep w es
+  total : stepCount es + length (owedBy w t) + length (planOf w t) ≡ eofStep w es
   total =
       let kc = k .counted in
       let z : length (owedBy w s) ≡ 0 = ap length (none-owed w s (at-start w s i a .0)) in
@@ -243,19 +246,19 @@ module _ (w : Transfer) (c : Carries w) (s : State) (i : Inv w s) (a : s .step �
       let r = ending w t (k .inv) in
       let lf = simp (length-append, length-map) at (ap length first-pass) in
       let lr = simp (length-append, length-map) at (ap length repaired-all) in
-      let lo = length-owed (w .segment) es in
+      let lo = length-answers (w .segment) (requested es) in
       let lt = length-tiles (w .segment) 0 (length (w .file)) in
       let tot = total in
       let lp = plan-pos w t (k .inv) in
       record {
         early = omega arith;
         one-each = omega arith;
-        tiling = (map decode (map (bytesOf w) (r .front)), front-read (firstPass (w .segment) 0 es) (r .front) (planned w) (planned-within w c) (first-cut (r .front) (r .split)));
-        answering = (map decode (map (bytesOf w) (owedBy w t)), front-read (repairs (w .segment) 0 es) (owedBy w t) (owed (w .segment) es) (k .within) repaired-all);
+        tiling = (map decode (map (bytesOf w) (r .front)), front-read (firstPass (w .segment) es) (r .front) (planned w) (planned-within w c) (first-cut (r .front) (r .split)));
+        answering = (map decode (map (bytesOf w) (owedBy w t)), front-read (repairs (w .segment) es) (owedBy w t) (repairsOwed (w .segment) es) (k .within) repaired-all);
         no-put = k .no-put;
       }
 
-  not-yet : (d : Option (List ℕ)) → isEof d ≡ false → suc (steps es) < eofStep w es → AtStep w es d
+  not-yet : (d : Option (List ℕ)) → isEof d ≡ false → suc (stepCount es) < eofStep w es → AtStep w es d
   not-yet d e h =
       record {
         when = ((λ y. absurd (true≢false (sym y ∙ e))), (λ z. absurd (omega arith)));
@@ -264,14 +267,14 @@ module _ (w : Transfer) (c : Carries w) (s : State) (i : Inv w s) (a : s .step �
 
   at-last : pending (t .queue) ≡ [] → planOf w t ≡ lastly w ∷ [] → AtEof w es (bytesOf w (lastly w))
   at-last q l =
-      let all : firstPass (w .segment) 0 es ≡ map (bytesOf w) (planned w) = sym (append-nil (firstPass (w .segment) 0 es)) ∙ first-cut [] l in
-      let rep : repairs (w .segment) 0 es ≡ map (bytesOf w) (owed (w .segment) es) =
-      sym (append-nil (repairs (w .segment) 0 es)) ∙ (rw (none-owed w t q) at repaired-all) in
+      let all : firstPass (w .segment) es ≡ map (bytesOf w) (planned w) = sym (append-nil (firstPass (w .segment) es)) ∙ first-cut [] l in
+      let rep : repairs (w .segment) es ≡ map (bytesOf w) (repairsOwed (w .segment) es) =
+      sym (append-nil (repairs (w .segment) es)) ∙ (rw (none-owed w t q) at repaired-all) in
       record {
         says = last-read w c;
         tiled = rw all (all-read w c (planned w) (planned-within w c));
         bytes = rw all (planned-file w c);
-        answered = rw rep (all-read w c (owed (w .segment) es) (k .within));
+        answered = rw rep (all-read w c (repairsOwed (w .segment) es) (k .within));
       }
 
   on-emitted : (d : Sending) (u : State) → DoesFrom w t d u → AtStep w es (some (bytesOf w d))
@@ -294,35 +297,21 @@ module _ (w : Transfer) (c : Carries w) (s : State) (i : Inv w s) (a : s .step �
         what = λ y. (bytesOf w (lastly w), refl, at-last q p);
       }
 
-  on-next : (e : Event) (u : State) (d : Option (List ℕ)) → Moves w t e u → e ≡ made d → AtStep w es d
-  on-next x y d Moves.refuses e = absurd (let z : _≡_ {A = ℕ} 0 1 = cc in omega arith)
-  on-next x y d (Moves.takes m u q p v n j) e = absurd (let z : _≡_ {A = ℕ} 0 1 = cc in omega arith)
+  on-next : (e : Shown) (u : State) (d : Option (List ℕ)) → Moves w t e u → e ≡ went d → AtStep w es d
+  on-next x y d Moves.refuses e = differ cc
+  on-next x y d (Moves.takes m u q p v n j) e = differ cc
   on-next x y d (Moves.emits b u z) e = let g : some (bytesOf w b) ≡ d = cc in rw g at (on-emitted b u z)
-  on-next x y d (Moves.ends u) e = absurd (let z : _≡_ {A = ℕ} 0 1 = cc in omega arith)
-
-  next-step : (cs : List Call) → Lends (w .file) cs → (d : Option (List ℕ)) (gs : List Event) → trace cs t ≡ made d ∷ gs → AtStep w es d
-  unfolding trace
-  next-step [] l d gs e = absurd (nil≢cons e)
-  next-step (x ∷ cs) l d gs e = on-next (seen x t) (after x t) d (call-moves w t (k .inv) x (l .0)) (head-eq-of-cons-eq e)
+  on-next x y d (Moves.ends u) e = differ cc
 
 -- ---- the demand
 
-at-place :
-    (w : Transfer) → Carries w → (s : State) → Inv w s → s .step ≡ SendingMetadata
-    → (es fs : List Event) → Place (w .file) s es fs → BeforeEof es
-    → SoFar w es × ((d : Option (List ℕ)) (gs : List Event) → fs ≡ made d ∷ gs → AtStep w es d)
-at-place w c s i a es fs p f =
-    (so-far w c s i a es t k, λ d gs e. next-step w c s i a es t k (p .rest) (p .lends-rest) d gs (p .coming ∙ e))
-  where
-    t : State
-    t = behind (p .before) s
-
-    k : Kept w s es t
-    k = rw (p .shown) at (kept w (c .fit) (p .before) s i (p .lends-before) (rw (p .shown) f))
-
 pub third-demand : ThirdDemand
-third-demand h c q source destination file b l a cs lends es fs e f =
+third-demand h c q source destination file b l a cs lends f =
     let p = put-passed h c q source destination (length file) a in
     let s = putSpec h c q source destination (length file) .state in
-    at-place _ (carries h c q source destination file p b l) s (begun h c q source destination file p) (begun-step h c q source destination file p)
-    es fs (place file cs s es fs lends e) f
+    let i = begun h c q source destination file p in
+    let y = carries h c q source destination file p b l in
+    let e = begun-step h c q source destination file p in
+    let t = behind cs s in
+    let k = kept _ (y .fit) cs s i lends f in
+    (so-far _ y s i e (trace cs s) t k, λ next d m z. on-next _ y s i e (trace cs s) t k (shows next t) (after next t) d (call-moves _ t (k .inv) next m) z)

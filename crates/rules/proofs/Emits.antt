@@ -16,7 +16,7 @@ use Rattle.basis.proofs.Laid.{taken}
 use Rattle.rules_pdu.specs.Layout.{Said, encode, pduLength}
 use Rattle.rules.specs.States.{isIdle, sourceName, destinationName}
 use Rattle.rules.specs.Step.{dueOf, sendingOf, closureBit, bytesFor, afterOf, eventsOf, changed, refusedStep, bytesDue, performed, stepSpec, stepBytes}
-use Rattle.rules.specs.Runs.{step, Event, turned, made, after, unless, pduIn, seen, LendsIn}
+use Rattle.rules.specs.Runs.{step, Shown, turned, went, after, unless, pduIn, shows, LendsIn}
 use Rattle.rules.specs.Demand.{Transfer, saidOf}
 use Rattle.types.specs.declared.Head.{Head}
 use Rattle.types.specs.declared.Fixed.{Fixed}
@@ -75,18 +75,18 @@ pub encode-pos : (h : Head) (m : Said) → 0 < length (encode h m)
 unfolding pduLength
 encode-pos h m = rw (length-encode h m) (omega arith)
 
--- the event of a step with the PDU x due and the state t behind it, and the state after it
-pub data Shows (w : Transfer) (s : State) (x : Sending) (t : State) : Event → State → Type 0 where
-  refuses : Shows w s x t turned s
-  shows : (d : Option (List ℕ)) → (0 < length (bytesOf w x) → d ≡ some (bytesOf w x)) → Shows w s x t (made d) t
+-- what a step with the PDU x due and the state t behind it shows, and the state after it
+pub data StepShows (w : Transfer) (s : State) (x : Sending) (t : State) : Shown → State → Type 0 where
+  refuses : StepShows w s x t turned s
+  passes : (d : Option (List ℕ)) → (0 < length (bytesOf w x) → d ≡ some (bytesOf w x)) → StepShows w s x t (went d) t
 
 module _ (w : Transfer) (s : State) (z : Sends (s .fixed) (s .names) w) where
   -- the lent file is the transfer's
   made-shows :
       (expired : Bool) (out : List ℕ)
       → let r = performed s (w .file) (dueOf s expired) (length out) in
-      Shows w s (sendingOf s (w .file) (dueOf s expired)) (afterOf s (w .file) (dueOf s expired))
-      (unless (r .answer) (made (pduIn (r .length) (inFront (bytesDue s (w .file) expired) out)))) (r .state)
+      StepShows w s (sendingOf s (w .file) (dueOf s expired)) (afterOf s (w .file) (dueOf s expired))
+      (unless (r .answer) (went (pduIn (r .length) (inFront (bytesDue s (w .file) expired) out)))) (r .state)
   unfolding performed
   made-shows expired out = go (ltb (length out) (length bs)) refl
     where
@@ -105,21 +105,21 @@ module _ (w : Transfer) (s : State) (z : Sends (s .fixed) (s .names) w) where
       go :
           (b : Bool) → ltb (length out) (length bs) ≡ b
           → let r = pick b (refusedStep s OutTooSmall) (record { answer = Accepted; length = length bs; events = eventsOf s (dueOf s expired); state = t }) in
-          Shows w s x t (unless (r .answer) (made (pduIn (r .length) (inFront bs out)))) (r .state)
+          StepShows w s x t (unless (r .answer) (went (pduIn (r .length) (inFront bs out)))) (r .state)
       go true e = refuses
-      go false e = shows (pduIn (length bs) (inFront bs out)) (λ p. pdu-in bs out (length bs) refl (rw same p) (ltb-false (length out) (length bs) e) ∙ ap some same)
+      go false e = passes (pduIn (length bs) (inFront bs out)) (λ p. pdu-in bs out (length bs) refl (rw same p) (ltb-false (length out) (length bs) e) ∙ ap some same)
 
   pub step-shows :
       isIdle (s .step) ≡ false
       → (lent : List ℕ) (expired : Bool) (out : List ℕ) → LendsIn (w .file) (step lent expired out)
-      → Shows w s (sendingOf s (w .file) (dueOf s expired)) (afterOf s (w .file) (dueOf s expired)) (seen (step lent expired out) s) (after (step lent expired out) s)
+      → StepShows w s (sendingOf s (w .file) (dueOf s expired)) (afterOf s (w .file) (dueOf s expired)) (shows (step lent expired out) s) (after (step lent expired out) s)
   unfolding stepSpec stepBytes
   step-shows busy lent expired out l = go (changed s (length lent)) refl
     where
       go :
           (b : Bool) → changed s (length lent) ≡ b
           → let r = pick b (refusedStep s FileChanged) (performed s lent (dueOf s expired) (length out)) in
-          Shows w s (sendingOf s (w .file) (dueOf s expired)) (afterOf s (w .file) (dueOf s expired))
-          (unless (r .answer) (made (pduIn (r .length) (pick b out (inFront (bytesDue s lent expired) out))))) (r .state)
+          StepShows w s (sendingOf s (w .file) (dueOf s expired)) (afterOf s (w .file) (dueOf s expired))
+          (unless (r .answer) (went (pduIn (r .length) (pick b out (inFront (bytesDue s lent expired) out))))) (r .state)
       go true e = refuses
-      go false e = rw (l (same-length w s (length lent) z busy e)) (made-shows expired out)
+      go false e = rw (l lent expired out refl (same-length w s (length lent) z busy e)) (made-shows expired out)

@@ -12,7 +12,7 @@ use Rattle.basis.specs.Pick.{pick}
 use Rattle.basis.specs.Laid.{inFront}
 use Rattle.basis.proofs.Laid.{taken}
 use Rattle.rules.specs.Step.{actionFor, faultDue, ackExpired, checkExpired, dueAt, eofOwed, dueOf, eventsOf, changed, performed, stepSpec, stepBytes}
-use Rattle.rules.specs.Runs.{step, Event, made, after, pduIn, seen, trace, behind}
+use Rattle.rules.specs.Runs.{step, Shown, went, after, pduIn, shows, trace, behind}
 use Rattle.rules.specs.Expiry.{Waits, ExpiryDue, keptPdu, recounted, repeatsLeft, expiries, ExpiryCounted, withLimit, Limit0ActsAs1}
 use Rattle.types.specs.declared.State.{State}
 use Rattle.types.specs.declared.Stepped.{Stepped}
@@ -68,22 +68,22 @@ module _ (file out : List ℕ) where
       let b = le-ltb (length out) (length (keptPdu s)) (g .2) in
       (rw (unchanged s g, d) refl, rw (unchanged s g, d, b) refl)
 
-  again-seen : (s : State) → Ready s → s .marks .count + 1 < s .fixed .limit
-      → (seen (step file true out) s ≡ made (some (keptPdu s))) × (after (step file true out) s ≡ recounted s (s .marks .count + 1))
-  again-seen s g c =
+  again-shown : (s : State) → Ready s → s .marks .count + 1 < s .fixed .limit
+      → (shows (step file true out) s ≡ went (some (keptPdu s))) × (after (step file true out) s ≡ recounted s (s .marks .count + 1))
+  again-shown s g c =
       let m = again-made s g c in
-      (rw (m .1, m .0) (ap made (front (keptPdu s) out (encode-pos (s .fixed .head) _) (g .2))), ap (λ (r : Stepped). r .state) (m .1))
+      (rw (m .1, m .0) (ap went (front (keptPdu s) out (encode-pos (s .fixed .head) _) (g .2))), ap (λ (r : Stepped). r .state) (m .1))
 
   -- ---- k steps
 
   run : (k : ℕ) (s : State) → Ready s → k ≤ repeatsLeft s
-      → (trace (expiries k file out) s ≡ replicate k (made (some (keptPdu s)))) × (behind (expiries k file out) s ≡ recounted s (s .marks .count + k))
+      → (trace (expiries k file out) s ≡ replicate k (went (some (keptPdu s)))) × (behind (expiries k file out) s ≡ recounted s (s .marks .count + k))
   unfolding trace behind
   run zero s g h = (refl, ap (λ (n : ℕ). recounted s n) (omega arith))
   run (suc k) s g h =
-      let e = again-seen s g (omega arith) in
+      let e = again-shown s g (omega arith) in
       let r = run k (recounted s (s .marks .count + 1)) g (omega arith) in (
-        rw (e .0, e .1) (ap (λ (es : List Event). made (some (keptPdu s)) ∷ es) (r .0)),
+        rw (e .0, e .1) (ap (λ (es : List Shown). went (some (keptPdu s)) ∷ es) (r .0)),
         ap (λ (t : State). behind (expiries k file out) t) (e .1) ∙ r .1 ∙ ap (λ (n : ℕ). recounted s n) (omega arith),
       )
 
@@ -91,7 +91,7 @@ pub expiry-counted : ExpiryCounted
 expiry-counted s file out w f l =
     let t = recounted s (s .marks .count + repeatsLeft s) in
     record {
-      emits = λ k h. run file out k s (w, f, l) h .0;
+      resends = λ k h. run file out k s (w, f, l) h .0;
       counts = λ k h. run file out k s (w, f, l) h .1;
       faults = rw (run file out (repeatsLeft s) s (w, f, l) (omega arith) .1) (expiry-due .fault t w (omega arith));
     }

@@ -331,8 +331,8 @@ behind-good [] s p g = g
 behind-good (put c q source destination S ∷ cs) s p g = behind-good cs _ (p .1) (good-kept .put s c q source destination S (p .0) g)
 behind-good (deliver bytes ∷ cs) s p g = behind-good cs _ (p .1) (good-kept .deliver s bytes (p .0) g)
 behind-good (step lent expired out ∷ cs) s p g = behind-good cs _ (p .1) (good-kept .step s lent expired (length out) (p .0) g)
-behind-good (cancel source number ∷ cs) s p g = behind-good cs _ p (good-kept .cancel s source number g)
-behind-good (reset ∷ cs) s p g = behind-good cs _ p (good-kept .reset s g)
+behind-good (cancel source number ∷ cs) s p g = behind-good cs _ (p .1) (good-kept .cancel s source number g)
+behind-good (reset ∷ cs) s p g = behind-good cs _ (p .1) (good-kept .reset s g)
 
 pub always-good : AlwaysGood
 always-good n cs p = behind-good cs (newSpec n) p (good-kept .new n)

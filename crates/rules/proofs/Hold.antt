@@ -18,7 +18,7 @@ use Rattle.rules.specs.Queues.{pending, oldest, pop, piece, served, isMe
 use Rattle.rules.specs.Deliver.{refused, accepted, nakOf, verdictOf, byVerdict, asked, requestsIn, deliverSpec}
 use Rattle.rules.specs.Step.{eofOwed, dueAt, dueOf, eofFor, repairOf, nextLength, sendingOf, afterMetadata, afterData, onward, afterOf}
 use Rattle.rules.specs.Tiles.{tiles, answers}
-use Rattle.rules.specs.Runs.{Call, put, deliver, step, cancel, reset, Event, turned, took, made, ended, after, unless, seen, LendsIn, requests}
+use Rattle.rules.specs.Runs.{Call, put, deliver, step, cancel, reset, Shown, turned, took, went, ended, after, unless, shows, LendsIn, requests}
 use Rattle.rules.specs.Demand.{Transfer, lastly}
 use Rattle.types.specs.declared.SegmentRequest.{SegmentRequest}
 use Rattle.types.specs.declared.Frame.{Frame}
@@ -39,7 +39,7 @@ use Rattle.types.specs.declared.Done.{Done}
 use Rattle.rules.proofs.Tiles.{tiles-zero, tiles-step, tiles-one, Within, within-more}
 use Rattle.rules.proofs.Pending.{pending-none, pending-first, Orderly, orderly-more, due-within, served-answers, orderly-served}
 use Rattle.rules.proofs.Outcomes.{put-by, cancel-by, delivered-by, Naks, nak-adds}
-use Rattle.rules.proofs.Emits.{bytesOf, Sends, encode-pos, Shows, step-shows}
+use Rattle.rules.proofs.Emits.{bytesOf, Sends, encode-pos, StepShows, step-shows}
 
 -- ---- the invariant
 
@@ -136,8 +136,8 @@ pub data Does (w : Transfer) (q : List SegmentRequest) (k : TransactionStep) (p 
 abbrev pub DoesFrom : Transfer → State → Sending → State → Type 0
 DoesFrom w s d t = Does w (pending (s .queue)) (s .step) (s .file .progress) d t
 
--- what the host sees of a call, and the state after it
-pub data Moves (w : Transfer) (s : State) : Event → State → Type 0 where
+-- what a call shows, and the state after it
+pub data Moves (w : Transfer) (s : State) : Shown → State → Type 0 where
   refuses : Moves w s turned s
   takes :
       (bytes : List ℕ) (t : State)
@@ -147,7 +147,7 @@ pub data Moves (w : Transfer) (s : State) : Event → State → Type 0 where
       → t .file .progress ≡ s .file .progress
       → Inv w t
       → Moves w s (took bytes) t
-  emits : (d : Sending) (t : State) → DoesFrom w s d t → Moves w s (made (some (bytesOf w d))) t
+  emits : (d : Sending) (t : State) → DoesFrom w s d t → Moves w s (went (some (bytesOf w d))) t
   ends : (t : State) → Moves w s ended t
 
 -- ---- steps
@@ -309,7 +309,7 @@ pub sent-le : (w : Transfer) (s : State) → Inv w s → s .file .progress ≤ l
 sent-le w s i = at-le (length (w .file)) (s .step) (s .file .progress) (pending (s .queue)) (i .here)
 
 step-moves : (w : Transfer) (s : State) → Inv w s → (lent : List ℕ) (expired : Bool) (out : List ℕ) → LendsIn (w .file) (step lent expired out)
-    → Moves w s (seen (step lent expired out) s) (after (step lent expired out) s)
+    → Moves w s (shows (step lent expired out) s) (after (step lent expired out) s)
 step-moves w s i lent expired out l = go _ _ (step-shows w s (i .sends) (not-idle w s i) lent expired out l)
   where
     x : Sending
@@ -321,9 +321,9 @@ step-moves w s i lent expired out l = go _ _ (step-shows w s (i .sends) (not-idl
     does : DoesFrom w s x t
     does = due-does w s i expired
 
-    go : (e : Event) (u : State) → Shows w s x t e u → Moves w s e u
-    go e u Shows.refuses = refuses
-    go e u (Shows.shows d f) = rw (f (does-some x t does)) (emits x t does)
+    go : (e : Shown) (u : State) → StepShows w s x t e u → Moves w s e u
+    go e u StepShows.refuses = refuses
+    go e u (StepShows.passes d f) = rw (f (does-some x t does)) (emits x t does)
 
 -- ---- deliveries
 
@@ -377,7 +377,7 @@ module _ (w : Transfer) (s : State) (i : Inv w s) where
   by-table bytes f WaitingForFinished m e h = absurd h
   by-table bytes f Closing m e h = absurd h
 
-  deliver-moves : (bytes : List ℕ) → Moves w s (seen (deliver bytes) s) (after (deliver bytes) s)
+  deliver-moves : (bytes : List ℕ) → Moves w s (shows (deliver bytes) s) (after (deliver bytes) s)
   deliver-moves bytes = go (deliverSpec s bytes) (delivered-by s (Takes w s) (λ rs r. turns r) (λ x f m. by-table x f (s .step) m refl (i .here)) bytes)
     where
       go : (r : Done) → Takes w s (requests bytes) r → Moves w s (unless (r .answer) (took bytes)) (r .state)
@@ -387,7 +387,7 @@ module _ (w : Transfer) (s : State) (i : Inv w s) where
   -- ---- all calls
 
   -- a handler that is busy refuses every put
-  pub call-moves : (c : Call) → LendsIn (w .file) c → Moves w s (seen c s) (after c s)
+  pub call-moves : (c : Call) → LendsIn (w .file) c → Moves w s (shows c s) (after c s)
   call-moves (put c q a b S) l = put-by s (Moves w s) refuses (λ t e. absurd (true≢false (sym e ∙ not-idle w s i))) c q a b S
   call-moves (deliver bytes) l = deliver-moves bytes
   call-moves (step lent expired out) l = step-moves w s i lent expired out l

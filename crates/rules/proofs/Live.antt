@@ -3,7 +3,7 @@
 -- Assumes nothing.
 use mathlib.Core.Path.{_≡_, refl, sym, ap, ap₂, _∙_}
 use mathlib.Core.Bool.{Bool, true, false}
-use mathlib.Core.List.{List, [], _∷_, _++_, map, cons≢nil, map-append}
+use mathlib.Core.List.{List, [], _∷_, _++_, map, flatMap, cons≢nil, map-append}
 use mathlib.Core.Option.{Option}
 use Prim.Native.Nat.{ℕ, _+_, _-_, _≤_, _<_}
 use native.Mathlib.Omega.{arith}
@@ -21,7 +21,7 @@ use Rattle.rules.specs.Deliver.{requestsIn}
 use Rattle.rules.specs.Put.{entryOf, putSpec, putAnswer, putState, byAnswer}
 use Rattle.rules.specs.Step.{dueOf, sendingOf, bytesFor, changed, performed, stepSpec, afterOf, stepBytes}
 use Rattle.rules.specs.Cancel.{newSpec}
-use Rattle.rules.specs.Runs.{Event, trace, behind, firstPass, requestsOfFrame, requestsOfBody, requests, Call, put, deliver, step, cancel, reset, turned, made, unless, pduIn, seen, emitted}
+use Rattle.rules.specs.Runs.{Call, step, Shown, turned, went, unless, pduIn, shows, trace, behind, LendsIn, requestsOfBody, requestsOfFrame, requests, emitted, firstPass}
 use Rattle.rules.specs.Demand.{Transfer, planned, lastly, transferOf, meant}
 use Rattle.rules.specs.Companions.{carried, Live, ProgressMade, SecondPut, NakAsks, PlainSteps, PlainRun}
 use Rattle.rules.specs.Queues.{pending}
@@ -39,9 +39,9 @@ use Rattle.types.specs.declared.Sending.the-variants.{Nothing as NoPdu, Metadat
 use Rattle.types.specs.declared.Answer.the-variants.{Accepted}
 use Rattle.rules_pdu.proofs.Round.{length-encode}
 use Rattle.rules_pdu.proofs.Heard.{heard-read}
-use Rattle.rules.proofs.Outcomes.{answer-by, state-by}
+use Rattle.rules.proofs.Outcomes.{differ, answer-by, state-by}
 use Rattle.rules.proofs.Tiles.{sizes, sizes-tiles, length-tiles}
-use Rattle.rules.proofs.Emits.{bytesOf, same-bytes, Shows, step-shows}
+use Rattle.rules.proofs.Emits.{bytesOf, same-bytes, StepShows, step-shows}
 use Rattle.rules.proofs.Hold.{Inv, Small, Does, due-does, planOf, none-owed, does-some, DoesFrom, not-idle}
 use Rattle.rules.proofs.Stream.{Carries, carried-sizes, planned-within, all-read, last-read}
 use Rattle.rules.proofs.Begun.{put-passed, head-fit, names, room, range, carries, begun, begun-step, Passed}
@@ -112,31 +112,35 @@ live h c q source destination file a cs l f expired m n =
 
 -- ---- a plain run
 
-step-made : (w : Transfer) (s : State) → Inv w s → (n : ℕ) → Wide w n → (expired : Bool) (out : List ℕ) → n ≤ length out → seen (step (w .file) expired out) s ≡ turned → ⊥
+step-made : (w : Transfer) (s : State) → Inv w s → (n : ℕ) → Wide w n → (expired : Bool) (out : List ℕ) → n ≤ length out → shows (step (w .file) expired out) s ≡ turned → ⊥
 step-made w s i n z expired out l e =
     let a = step-live w s i n z expired (length out) l in
     let r = stepSpec s (w .file) expired (length out) in
-    let b : unless (r .answer) (made (pduIn (r .length) (stepBytes s (w .file) expired out))) ≡ made (pduIn (r .length) (stepBytes s (w .file) expired out)) = rw a in
-    let y : _≡_ {A = ℕ} 0 1 = cc in
-    omega arith
+    let b : unless (r .answer) (went (pduIn (r .length) (stepBytes s (w .file) expired out))) ≡ went (pduIn (r .length) (stepBytes s (w .file) expired out)) = rw a in
+    differ cc
 
 no-calls : (cs : List Call) → length cs ≡ 0 → cs ≡ []
 no-calls [] e = refl
 no-calls (c ∷ cs) e = absurd (omega arith)
 
+lends-it : (file : List ℕ) (expired : Bool) (out : List ℕ) → LendsIn file (step file expired out)
+lends-it file expired out lent x o e l = cc
+
 plain :
     (w : Transfer) (n : ℕ) → Wide w n → (cs : List Call) (s : State) → Inv w s → pending (s .queue) ≡ [] → PlainSteps (w .file) n cs
     → length cs ≡ length (planOf w s) → emitted (trace cs s) ≡ map (bytesOf w) (planOf w s)
-unfolding trace emitted
+unfolding trace flatMap
 plain w n z [] s i q f e = let l = plan-pos w s i in absurd (omega arith)
-plain w n z (put c r a b S ∷ cs) s i q f e = absurd f
-plain w n z (deliver bytes ∷ cs) s i q f e = absurd f
-plain w n z (cancel source number ∷ cs) s i q f e = absurd f
-plain w n z (reset ∷ cs) s i q f e = absurd f
-plain w n z (step lent expired out ∷ cs) s i q f e =
-    rw (f .0) (go _ _ (step-shows w s (i .sends) (not-idle w s i) (w .file) expired out (λ l. refl)) (step-made w s i n z expired out (f .1))
-    (λ t j p k. plain w n z cs t j p (f .2) k))
+plain w n z (c ∷ cs) s i q f e =
+    rw (f .0 .2) (go _ _ (step-shows w s (i .sends) (not-idle w s i) (w .file) expired out (lends-it (w .file) expired out)) (step-made w s i n z expired out (f .0 .3))
+    (λ t j p k. plain w n z cs t j p (f .1) k))
   where
+    expired : Bool
+    expired = f .0 .0
+
+    out : List ℕ
+    out = f .0 .1
+
     x : Sending
     x = sendingOf s (w .file) (dueOf s expired)
 
@@ -154,11 +158,11 @@ plain w n z (step lent expired out ∷ cs) s i q f e =
         let lp = ap length p in
         rw (p, no-calls cs (omega arith))
 
-    go : (e : Event) (t : State) → Shows w s x u e t → (e ≡ turned → ⊥)
+    go : (e : Shown) (t : State) → StepShows w s x u e t → (e ≡ turned → ⊥)
         → ((t : State) → Inv w t → pending (t .queue) ≡ [] → length cs ≡ length (planOf w t) → emitted (trace cs t) ≡ map (bytesOf w) (planOf w t))
         → emitted (e ∷ trace cs t) ≡ map (bytesOf w) (planOf w s)
-    go e t Shows.refuses y ih = absurd (y refl)
-    go e t (Shows.shows d g) y ih =
+    go e t StepShows.refuses y ih = absurd (y refl)
+    go e t (StepShows.passes d g) y ih =
         let k = due-does w s i expired in
         rw (g (does-some x u k)) (next x u k ih)
 
@@ -191,13 +195,13 @@ unfolding carried
 carried-append [] ys = omega arith
 carried-append (x ∷ xs) ys = let i = carried-append xs ys in omega arith
 
-progress-sent : (w : Transfer) → Carries w → (s : State) → Inv w s → s .step ≡ SendingMetadata → (es : List Event) (t : State) → Kept w s es t
-    → t .file .progress ≡ carried (firstPass (w .segment) 0 es)
+progress-sent : (w : Transfer) → Carries w → (s : State) → Inv w s → s .step ≡ SendingMetadata → (es : List Shown) (t : State) → Kept w s es t
+    → t .file .progress ≡ carried (firstPass (w .segment) es)
 unfolding sizes
 progress-sent w c s i a es t k =
     let r = ending w t (k .inv) in
     let e = ap carried (first-cut w c s i a es t k (r .front) (r .split)) in
-    let f = carried-append (firstPass (w .segment) 0 es) (map (bytesOf w) (r .front)) in
+    let f = carried-append (firstPass (w .segment) es) (map (bytesOf w) (r .front)) in
     let g = carried-sizes w c (r .front) (r .within) in
     let j = carried-sizes w c (planned w) (planned-within w c) in
     let z = sizes-tiles (w .segment) 0 (length (w .file)) (c .pos) in

@@ -3,18 +3,17 @@
 use mathlib.Core.Path.{_≡_, refl, ap, _∙_}
 use mathlib.Core.Bool.{Bool}
 use mathlib.Core.List.{List, [], _∷_}
-use Prim.Native.Nat.{ℕ, _+_, _*_, _^_}
+use Prim.Native.Nat.{ℕ, _+_}
 use lib.Dec.{eqb, ltb}
 use lib.ListN.{length}
 use Rattle.basis.proofs.Pick.{cases}
-use Rattle.rules_pdu.specs.Numbers.{numberAfter}
 use Rattle.rules.specs.States.{idle}
 use Rattle.rules.specs.Queues.{anyInvalid, owing, free}
 use Rattle.rules.specs.Put.{started, putAnswer, putState, byAnswer, putSpec}
 use Rattle.rules.specs.Deliver.{verdictOf, takesNak, nakOf, movedBy, asked, byVerdict, deliverSpec}
 use Rattle.rules.specs.Step.{dueOf, nextLength, afterCancelEof, afterMetadata, afterData, afterEof, afterOf, changed, bytesDue, performed, stepSpec}
 use Rattle.rules.specs.Cancel.{resetSpec}
-use Rattle.rules.specs.Runs.{put, deliver, step, cancel, reset, Event, began, took, made, after, unless, trace, behind}
+use Rattle.rules.specs.Runs.{put, deliver, step, cancel, reset, Shown, began, took, went, after, unless, trace, behind}
 use Rattle.rules.specs.NumberMoves.{moves, movesAll, NumberMoves, NumberBehind}
 use Rattle.types.specs.declared.SegmentRequest.{SegmentRequest}
 use Rattle.types.specs.declared.Frame.{Frame}
@@ -33,8 +32,8 @@ use Rattle.types.specs.declared.Done.{Done}
 use Rattle.types.specs.declared.Stepped.{Stepped}
 use Rattle.rules.proofs.Outcomes.{cancel-by, delivered-by}
 
--- refused or not, a call whose event leaves the number shows nothing that moves it
-unless-same : (a : Answer) (e : Event) (n : TransactionSeqNum) → n ≡ moves e n → n ≡ moves (unless a e) n
+-- what leaves the number where a call is accepted leaves it where the call is refused
+unless-same : (a : Answer) (e : Shown) (n : TransactionSeqNum) → n ≡ moves e n → n ≡ moves (unless a e) n
 unless-same Accepted e n h = h
 unless-same (Refused r) e n h = refl
 
@@ -113,7 +112,7 @@ pub number-moves : NumberMoves
 unfolding putSpec putState started resetSpec
 number-moves (put c q a b S) s = put-moves s (putState s c q a b S) (putAnswer s c q a b S) refl
 number-moves (deliver bytes) s = deliver-same s bytes ∙ unless-same (deliverSpec s bytes .answer) (took bytes) (s .number) refl
-number-moves (step lent expired out) s = step-same s lent expired (length out) ∙ unless-same (stepSpec s lent expired (length out) .answer) (made _) (s .number) refl
+number-moves (step lent expired out) s = step-same s lent expired (length out) ∙ unless-same (stepSpec s lent expired (length out) .answer) (went _) (s .number) refl
 number-moves (cancel source number) s = cancel-by s (λ e t. t .number ≡ moves e (s .number)) refl refl source number
 number-moves reset s = idle-same s
 

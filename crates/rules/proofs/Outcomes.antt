@@ -15,7 +15,7 @@ use Rattle.rules.specs.Put.{putAnswer, putState, byAnswer, putSpec}
 use Rattle.rules.specs.Deliver.{refused, accepted, sameTransaction, takesNak, nakOf, verdictOf, asked, byVerdict, heard, byBody, byFrame, deliverSpec}
 use Rattle.rules.specs.Cancel.{mayCancel, userCancelled, cancelSpec}
 use Rattle.rules.specs.Tiles.{answers}
-use Rattle.rules.specs.Runs.{put, cancel, Event, turned, began, ended, after, unless, seen, requestsOfBody, requestsOfFrame, requests}
+use Rattle.rules.specs.Runs.{put, cancel, Shown, turned, began, ended, after, unless, shows, requestsOfBody, requestsOfFrame, requests}
 use Rattle.types.specs.declared.EntityId.{EntityId}
 use Rattle.types.specs.declared.TransactionSeqNum.{TransactionSeqNum}
 use Rattle.types.specs.declared.LocalEntityConfig.{LocalEntityConfig}
@@ -38,12 +38,16 @@ use Rattle.types.specs.declared.Cancelled.{Cancelled}
 use Rattle.rules.proofs.Tiles.{Within}
 use Rattle.rules.proofs.Pending.{Orderly, answers-within, all-answers, orderly-all}
 
+-- two constructors differ: `cc` makes this equation of theirs
+pub differ : {A : Type 0} → _≡_ {A = ℕ} 0 1 → A
+differ e = absurd (omega arith)
+
 -- ---- put
 
 -- a test that passed
 pub passed : (b : Bool) (x : Answer) (r : Refusal) → pick b x (Refused r) ≡ Accepted → (b ≡ true) × (x ≡ Accepted)
 passed true x r e = (refl, e)
-passed false x r e = absurd (let z : _≡_ {A = ℕ} 0 1 = cc in omega arith)
+passed false x r e = differ cc
 
 pub answer-by : (s t : State) (x : Answer) → byAnswer s t x .answer ≡ x
 answer-by s t Accepted = refl
@@ -52,10 +56,10 @@ answer-by s t (Refused r) = refl
 pub state-by : (s t : State) (x : Answer) → x ≡ Accepted → byAnswer s t x .state ≡ t
 state-by s t x e = rw e
 
-module _ (s : State) (P : Event → State → Type 0) (stays : P turned s) where
+module _ (s : State) (P : Shown → State → Type 0) (stays : P turned s) where
   -- accepted only where the handler is Idle
   pub put-by : ((t : State) → isIdle (s .step) ≡ true → P began t)
-      → (c : LocalEntityConfig) (q : PutRequest) (a b : List ℕ) (S : ℕ) → P (seen (put c q a b S) s) (after (put c q a b S) s)
+      → (c : LocalEntityConfig) (q : PutRequest) (a b : List ℕ) (S : ℕ) → P (shows (put c q a b S) s) (after (put c q a b S) s)
   unfolding putSpec putAnswer
   put-by begins c q a b S = go (putAnswer s c q a b S) (λ e. passed (isIdle (s .step)) _ _ e .0)
     where
@@ -65,7 +69,7 @@ module _ (s : State) (P : Event → State → Type 0) (stays : P turned s) where
 
   -- ---- cancel
 
-  pub cancel-by : P ended (userCancelled s) → (source : EntityId) (number : TransactionSeqNum) → P (seen (cancel source number) s) (after (cancel source number) s)
+  pub cancel-by : P ended (userCancelled s) → (source : EntityId) (number : TransactionSeqNum) → P (shows (cancel source number) s) (after (cancel source number) s)
   unfolding cancelSpec
   cancel-by ends source number = go (mayCancel s source number)
     where

@@ -2,8 +2,9 @@
 -- the next put; while something is owed and no other call is accepted, each step takes the head of what is owed.
 -- Assumes nothing.
 use mathlib.Core.Path.{_≡_, refl, sym, ap, _∙_}
+use mathlib.Core.Logic.{_⊎_, inl, inr}
 use mathlib.Core.Bool.{Bool, true, false, true≢false}
-use mathlib.Core.List.{List, [], _∷_, _++_, map}
+use mathlib.Core.List.{List, [], _∷_, _++_, map, flatMap}
 use mathlib.Core.Option.{Option, some}
 use Prim.Native.Nat.{ℕ, zero, suc, _+_, _≤_, _<_}
 use native.Mathlib.Omega.{arith}
@@ -20,7 +21,7 @@ use Rattle.rules.specs.Put.{putSpec}
 use Rattle.rules.specs.Deliver.{refused, accepted, nakOf, verdictOf, byVerdict, movedBy, asked, requestsIn, deliverSpec}
 use Rattle.rules.specs.Step.{actionFor, faultDue, ackExpired, checkExpired, eofOwed, dueAt, dueOf, sendingOf, repairOf, nextLength, afterCancelEof, afterMetadata, afterData, afterEof, afterOf, changed, performed, stepSpec}
 use Rattle.rules.specs.Tiles.{answers}
-use Rattle.rules.specs.Runs.{Call, put, deliver, step, cancel, reset, Event, turned, began, took, made, ended, after, unless, seen, trace, behind, LendsIn, Lends, steps, NoPut, NoEnd, StepsOnly, requests, emitted}
+use Rattle.rules.specs.Runs.{Call, put, deliver, step, cancel, reset, Shown, turned, began, took, went, ended, after, unless, shows, trace, behind, LendsIn, Lends, requests, isStep, stepCount, emitted, NoPut, NoEnd, StepsOnly}
 use Rattle.rules.specs.Demand.{Transfer, transferOf, meant}
 use Rattle.rules.specs.Companions.{NakAnswered, BenchSheet}
 use Rattle.types.specs.declared.TransactionSeqNum.{TransactionSeqNum}
@@ -46,8 +47,8 @@ use Rattle.types.specs.declared.Done.{Done}
 use Rattle.types.specs.declared.Stepped.{Stepped}
 use Rattle.rules.proofs.Tiles.{length-answers}
 use Rattle.rules.proofs.Pending.{pending-none, Orderly, orderly-empty, orderly-more, served-answers, orderly-served}
-use Rattle.rules.proofs.Outcomes.{put-by, cancel-by, delivered-by, Naks, nak-adds}
-use Rattle.rules.proofs.Emits.{bytesOf, Sends, Shows, step-shows}
+use Rattle.rules.proofs.Outcomes.{differ, put-by, cancel-by, delivered-by, Naks, nak-adds}
+use Rattle.rules.proofs.Emits.{bytesOf, Sends, StepShows, step-shows}
 use Rattle.rules.proofs.Hold.{Inv, sent-le, owedBy, none-owed, not-idle, small-repair, small-some}
 use Rattle.rules.proofs.Stream.{Carries, all-read}
 use Rattle.rules.proofs.Begun.{put-passed, carries, begun}
@@ -220,13 +221,13 @@ idle-step n file expired room = cases (λ (r : Stepped). r .state ≡ idle n) (l
 
 -- ---- all calls, from the put on
 
-data Keeps (w : Transfer) : Event → State → Type 0 where
-  keeps : (e : Event) (t : State) → Loose w t → Keeps w e t
+data Keeps (w : Transfer) : Shown → State → Type 0 where
+  keeps : (e : Shown) (t : State) → Loose w t → Keeps w e t
   begins : (t : State) → Keeps w began t
   finishes : (t : State) → Keeps w ended t
 
 module _ (w : Transfer) (pos : 0 < w .segment) (s : State) (l : Loose w s) where
-  deliver-keeps : (bytes : List ℕ) → Keeps w (seen (deliver bytes) s) (after (deliver bytes) s)
+  deliver-keeps : (bytes : List ℕ) → Keeps w (shows (deliver bytes) s) (after (deliver bytes) s)
   deliver-keeps bytes = go (deliverSpec s bytes) (deliver-heeds w pos s l bytes)
     where
       go : (r : Done) → Heeds w s (requests bytes) r → Keeps w (unless (r .answer) (took bytes)) (r .state)
@@ -235,50 +236,36 @@ module _ (w : Transfer) (pos : 0 < w .segment) (s : State) (l : Loose w s) where
       go r (Heeds.others t e k) = keeps (took bytes) t k
 
   step-keeps : Loose w s → (lent : List ℕ) (expired : Bool) (out : List ℕ) → LendsIn (w .file) (step lent expired out)
-      → Keeps w (seen (step lent expired out) s) (after (step lent expired out) s)
+      → Keeps w (shows (step lent expired out) s) (after (step lent expired out) s)
   step-keeps (rests n e) lent expired out k =
-      keeps (seen (step lent expired out) s) (after (step lent expired out) s)
+      keeps (shows (step lent expired out) s) (after (step lent expired out) s)
       (rests n (ap (λ (x : State). stepSpec x lent expired (length out) .state) e ∙ idle-step n lent expired (length out)))
   step-keeps (works b) lent expired out k = go _ _ (step-shows w s (b .sends) (b .awake) lent expired out k)
     where
-      go : (e : Event) (u : State) → Shows w s (sendingOf s (w .file) (dueOf s expired)) (afterOf s (w .file) (dueOf s expired)) e u → Keeps w e u
-      go e u Shows.refuses = keeps turned s l
-      go e u (Shows.shows d f) = keeps (made d) _ (due-keeps w pos s b (w .file) (dueOf s expired) (due-pends s expired))
+      go : (e : Shown) (u : State) → StepShows w s (sendingOf s (w .file) (dueOf s expired)) (afterOf s (w .file) (dueOf s expired)) e u → Keeps w e u
+      go e u StepShows.refuses = keeps turned s l
+      go e u (StepShows.passes d f) = keeps (went d) _ (due-keeps w pos s b (w .file) (dueOf s expired) (due-pends s expired))
 
-  call-keeps : (c : Call) → LendsIn (w .file) c → Keeps w (seen c s) (after c s)
+  call-keeps : (c : Call) → LendsIn (w .file) c → Keeps w (shows c s) (after c s)
   call-keeps (put c q a b S) k = put-by s (Keeps w) (keeps turned s l) (λ t e. begins t) c q a b S
   call-keeps (deliver bytes) k = deliver-keeps bytes
   call-keeps (step lent expired out) k = step-keeps l lent expired out k
   call-keeps (cancel source number) k = cancel-by s (Keeps w) (keeps turned s l) (finishes _) source number
   call-keeps reset k = finishes _
 
-no-end-rest : (e : Event) (es : List Event) → NoEnd (e ∷ es) → NoEnd es
-no-end-rest turned es h = h
-no-end-rest began es h = h
-no-end-rest (took m) es h = h
-no-end-rest (made d) es h = h
-no-end-rest ended es h = absurd h
-
-no-put-rest : (e : Event) (es : List Event) → NoPut (e ∷ es) → NoPut es
-no-put-rest turned es h = h
-no-put-rest began es h = absurd h
-no-put-rest (took m) es h = h
-no-put-rest (made d) es h = h
-no-put-rest ended es h = h
-
 run-keeps : (w : Transfer) → 0 < w .segment → (cs : List Call) (s : State) → Loose w s → Lends (w .file) cs → NoEnd (trace cs s) → NoPut (trace cs s)
     → Loose w (behind cs s)
 unfolding trace behind
 run-keeps w pos [] s l k f g = l
-run-keeps w pos (c ∷ cs) s l k f g = go (seen c s) (after c s) (call-keeps w pos s l c (k .0)) (λ t j. run-keeps w pos cs t j (k .1)) f g
+run-keeps w pos (c ∷ cs) s l k f g = go (shows c s) (after c s) (call-keeps w pos s l c (k .0)) (λ t j. run-keeps w pos cs t j (k .1)) f g
   where
     go :
-        (e : Event) (t : State) → Keeps w e t
+        (e : Shown) (t : State) → Keeps w e t
         → ((u : State) → Loose w u → NoEnd (trace cs u) → NoPut (trace cs u) → Loose w (behind cs u))
         → NoEnd (e ∷ trace cs t) → NoPut (e ∷ trace cs t) → Loose w (behind cs t)
-    go x y (Keeps.keeps e t j) ih f g = ih t j (no-end-rest e (trace cs t) f) (no-put-rest e (trace cs t) g)
-    go x y (Keeps.begins t) ih f g = absurd g
-    go x y (Keeps.finishes t) ih f g = absurd f
+    go x y (Keeps.keeps e t j) ih f g = ih t j (f .1) (g .1)
+    go x y (Keeps.begins t) ih f g = absurd (g .0 refl)
+    go x y (Keeps.finishes t) ih f g = absurd (f .0 refl)
 
 -- ---- what is owed is served
 
@@ -286,10 +273,10 @@ record Serving (w : Transfer) (s : State) : Type 0 where
   busy : Busy w s
   unmarked : s .marks .cancelled ≡ false
 
-data Goes (w : Transfer) (s : State) : Event → State → Type 0 where
+data Goes (w : Transfer) (s : State) : Shown → State → Type 0 where
   stays : Goes w s turned s
-  serves-next : (d : Sending) (t : State) → owedBy w s ≡ d ∷ owedBy w t → Serving w t → Goes w s (made (some (bytesOf w d))) t
-  runs-out : (d : Option (List ℕ)) (t : State) → owedBy w s ≡ [] → Goes w s (made d) t
+  serves-next : (d : Sending) (t : State) → owedBy w s ≡ d ∷ owedBy w t → Serving w t → Goes w s (went (some (bytesOf w d))) t
+  runs-out : (d : Option (List ℕ)) (t : State) → owedBy w s ≡ [] → Goes w s (went d) t
   takes-other : (m : List ℕ) (t : State) → Goes w s (took m) t
   ends-it : (t : State) → Goes w s ended t
 
@@ -302,10 +289,10 @@ module _ (w : Transfer) (pos : 0 < w .segment) (s : State) (v : Serving w s) whe
   unfolding dueOf
   repair-due expired e = rw (no-cancel-eof, e)
 
-  repair-goes : (n : ℕ) → n ≡ w .segment → 0 < s .queue .count → (e : Event) (u : State)
-      → Shows w s (repairOf n (oldest (s .queue))) (withQueue s (served n (s .queue))) e u → Goes w s e u
-  repair-goes n a c e u Shows.refuses = stays
-  repair-goes n a c e u (Shows.shows d f) =
+  repair-goes : (n : ℕ) → n ≡ w .segment → 0 < s .queue .count → (e : Shown) (u : State)
+      → StepShows w s (repairOf n (oldest (s .queue))) (withQueue s (served n (s .queue))) e u → Goes w s e u
+  repair-goes n a c e u StepShows.refuses = stays
+  repair-goes n a c e u (StepShows.passes d f) =
       let L = w .segment in
       let S = length (w .file) in
       let q = s .queue in
@@ -320,24 +307,24 @@ module _ (w : Transfer) (pos : 0 < w .segment) (s : State) (v : Serving w s) whe
       rw (f small) (serves-next x (withQueue s (served n q)) (rw a (served-answers L S pos q o c)) next)
 
   step-goes : (lent : List ℕ) (expired : Bool) (out : List ℕ) → LendsIn (w .file) (step lent expired out)
-      → Goes w s (seen (step lent expired out) s) (after (step lent expired out) s)
+      → Goes w s (shows (step lent expired out) s) (after (step lent expired out) s)
   step-goes lent expired out l = go (ltb 0 (s .queue .count)) refl
     where
       view :
-          Shows w s (sendingOf s (w .file) (dueOf s expired)) (afterOf s (w .file) (dueOf s expired))
-          (seen (step lent expired out) s) (after (step lent expired out) s)
+          StepShows w s (sendingOf s (w .file) (dueOf s expired)) (afterOf s (w .file) (dueOf s expired))
+          (shows (step lent expired out) s) (after (step lent expired out) s)
       view = step-shows w s (v .busy .sends) (v .busy .awake) lent expired out l
 
-      over : owedBy w s ≡ [] → (x : Sending) (t : State) (e : Event) (u : State) → Shows w s x t e u → Goes w s e u
-      over o x t e u Shows.refuses = stays
-      over o x t e u (Shows.shows d f) = runs-out d t o
+      over : owedBy w s ≡ [] → (x : Sending) (t : State) (e : Shown) (u : State) → StepShows w s x t e u → Goes w s e u
+      over o x t e u StepShows.refuses = stays
+      over o x t e u (StepShows.passes d f) = runs-out d t o
 
-      go : (b : Bool) → ltb 0 (s .queue .count) ≡ b → Goes w s (seen (step lent expired out) s) (after (step lent expired out) s)
+      go : (b : Bool) → ltb 0 (s .queue .count) ≡ b → Goes w s (shows (step lent expired out) s) (after (step lent expired out) s)
       go true e =
           repair-goes (s .fixed .segment) (v .busy .sends .segment-is) (ltb-true 0 (s .queue .count) e) _ _ (rw (repair-due expired e) at view)
       go false e = let z = ltb-false 0 (s .queue .count) e in over (none-owed w s (pending-none (s .queue) (omega arith))) _ _ _ _ view
 
-  deliver-goes : (bytes : List ℕ) → Goes w s (seen (deliver bytes) s) (after (deliver bytes) s)
+  deliver-goes : (bytes : List ℕ) → Goes w s (shows (deliver bytes) s) (after (deliver bytes) s)
   deliver-goes bytes = go (deliverSpec s bytes) (deliver-heeds w pos s (works (v .busy)) bytes)
     where
       go : (r : Done) → Heeds w s (requests bytes) r → Goes w s (unless (r .answer) (took bytes)) (r .state)
@@ -345,36 +332,40 @@ module _ (w : Transfer) (pos : 0 < w .segment) (s : State) (v : Serving w s) whe
       go r (Heeds.adds t c a b) = takes-other bytes t
       go r (Heeds.others t e k) = takes-other bytes t
 
-  call-goes : (c : Call) → LendsIn (w .file) c → Goes w s (seen c s) (after c s)
+  call-goes : (c : Call) → LendsIn (w .file) c → Goes w s (shows c s) (after c s)
   call-goes (put c q a b S) k = put-by s (Goes w s) stays (λ t e. absurd (true≢false (sym e ∙ v .busy .awake))) c q a b S
   call-goes (deliver bytes) k = deliver-goes bytes
   call-goes (step lent expired out) k = step-goes lent expired out k
   call-goes (cancel source number) k = cancel-by s (Goes w s) stays (ends-it _) source number
   call-goes reset k = ends-it _
 
+no-step : (e : Shown) → isStep e ≡ false → ¬ (e ≡ turned) → (e ≡ turned) ⊎ (isStep e ≡ true) → ⊥
+no-step e a b (inl c) = b c
+no-step e a b (inr c) = true≢false (sym c ∙ a)
+
 -- as many steps as are owed emit what is owed
 served-all :
     (w : Transfer) → 0 < w .segment → (ds : List Call) (s : State) → Serving w s → Lends (w .file) ds → StepsOnly (trace ds s)
-    → steps (trace ds s) ≤ length (owedBy w s)
-    → emitted (trace ds s) ≡ take (steps (trace ds s)) (map (bytesOf w) (owedBy w s))
-unfolding trace steps emitted
+    → stepCount (trace ds s) ≤ length (owedBy w s)
+    → emitted (trace ds s) ≡ take (stepCount (trace ds s)) (map (bytesOf w) (owedBy w s))
+unfolding trace flatMap
 served-all w pos [] s v l f n = refl
 served-all w pos (c ∷ ds) s v l f n =
-    go (seen c s) (after c s) (call-goes w pos s v c (l .0)) (λ t u. served-all w pos ds t u (l .1)) f n
+    go (shows c s) (after c s) (call-goes w pos s v c (l .0)) (λ t u. served-all w pos ds t u (l .1)) f n
   where
     go :
-        (e : Event) (t : State) → Goes w s e t
-        → ((u : State) → Serving w u → StepsOnly (trace ds u) → steps (trace ds u) ≤ length (owedBy w u)
-        → emitted (trace ds u) ≡ take (steps (trace ds u)) (map (bytesOf w) (owedBy w u)))
-        → StepsOnly (e ∷ trace ds t) → steps (e ∷ trace ds t) ≤ length (owedBy w s)
-        → emitted (e ∷ trace ds t) ≡ take (steps (e ∷ trace ds t)) (map (bytesOf w) (owedBy w s))
-    go x y Goes.stays ih f n = ih s v f n
+        (e : Shown) (t : State) → Goes w s e t
+        → ((u : State) → Serving w u → StepsOnly (trace ds u) → stepCount (trace ds u) ≤ length (owedBy w u)
+        → emitted (trace ds u) ≡ take (stepCount (trace ds u)) (map (bytesOf w) (owedBy w u)))
+        → StepsOnly (e ∷ trace ds t) → stepCount (e ∷ trace ds t) ≤ length (owedBy w s)
+        → emitted (e ∷ trace ds t) ≡ take (stepCount (e ∷ trace ds t)) (map (bytesOf w) (owedBy w s))
+    go x y Goes.stays ih f n = ih s v (f .1) n
     go x y (Goes.serves-next d t q u) ih f n =
         let lq = ap length q in
-        rw q (ap (λ (l : List (List ℕ)). bytesOf w d ∷ l) (ih t u f (omega arith)))
+        rw q (ap (λ (l : List (List ℕ)). bytesOf w d ∷ l) (ih t u (f .1) (omega arith)))
     go x y (Goes.runs-out d t q) ih f n = let lq = ap length q in absurd (omega arith)
-    go x y (Goes.takes-other m t) ih f n = absurd f
-    go x y (Goes.ends-it t) ih f n = absurd f
+    go x y (Goes.takes-other m t) ih f n = absurd (no-step (took m) refl (λ e. differ cc) (f .0))
+    go x y (Goes.ends-it t) ih f n = absurd (no-step ended refl (λ e. differ cc) (f .0))
 
 -- ---- the promises
 
@@ -388,16 +379,16 @@ all-served :
     → (r : Done) → Heeds w s (requests bytes) r → r .answer ≡ Accepted
     → (ds : List Call) → Lends (w .file) ds → StepsOnly (trace ds (r .state))
     → let all = owedBy w s ++ answers (w .segment) (requests bytes) in
-    steps (trace ds (r .state)) ≤ length all
-    → map decode (emitted (trace ds (r .state))) ≡ take (steps (trace ds (r .state))) (map (meant w) all)
-all-served w c s l bytes p r (Heeds.turns n) a ds k f h = absurd (let z : _≡_ {A = ℕ} 0 1 = cc in omega arith)
+    stepCount (trace ds (r .state)) ≤ length all
+    → map decode (emitted (trace ds (r .state))) ≡ take (stepCount (trace ds (r .state))) (map (meant w) all)
+all-served w c s l bytes p r (Heeds.turns n) a ds k f h = differ cc
 all-served w c s l bytes p r (Heeds.adds t m o b) a ds k f h =
     let lo = ap length o in
     let v : Serving w t = record { busy = b; unmarked = m } in
     let e = served-all w (c .pos) ds t v k f (omega arith) in
     ap (map decode) e
-    ∙ map-take decode (steps (trace ds t)) (map (bytesOf w) (owedBy w t))
-    ∙ ap (take (steps (trace ds t))) (all-read w c (owedBy w t) (b .orderly .within) ∙ ap (map (meant w)) o)
+    ∙ map-take decode (stepCount (trace ds t)) (map (bytesOf w) (owedBy w t))
+    ∙ ap (take (stepCount (trace ds t))) (all-read w c (owedBy w t) (b .orderly .within) ∙ ap (map (meant w)) o)
 all-served w c s l bytes p r (Heeds.others t e j) a ds k f h = let z = ap length e in absurd (omega arith)
 
 loosened : (w : Transfer) (s : State) → Inv w s → Loose w s
@@ -427,4 +418,4 @@ bench-sheet h c q source destination file b z a cs k f g none-pending bytes n x 
     let lw = length-answers (w .segment) (requests bytes) in
     let t = deliverSpec (behind cs s) bytes .state in
     let r = nak-answered h c q source destination file b z a cs k f g bytes (omega arith) x ds j y (omega arith) in
-    (rw all at r) ∙ take-all (steps (trace ds t)) (map (meant w) (answers (w .segment) (requests bytes))) (rw (length-map (answers (w .segment) (requests bytes)) (meant w)) (omega arith))
+    (rw all at r) ∙ take-all (stepCount (trace ds t)) (map (meant w) (answers (w .segment) (requests bytes))) (rw (length-map (answers (w .segment) (requests bytes)) (meant w)) (omega arith))

@@ -1,7 +1,7 @@
 -- The bytes of a transfer's PDUs, read by the other side: each decodes to what it says, the tiles join to the file, an EOF is known by its code.
 -- From the round trip, once for each kind of PDU, and the tiles' own predicate.
 -- Assumes nothing.
-use mathlib.Core.Path.{_≡_, refl, ap, ap₂}
+use mathlib.Core.Path.{_≡_, refl, ap₂}
 use mathlib.Core.Bool.{true, false}
 use mathlib.Core.List.{List, [], _∷_, map}
 use mathlib.Core.Option.{Option, none, some}
@@ -9,19 +9,18 @@ use Prim.Native.Nat.{ℕ, _+_, _-_, _*_, _^_, _≤_, _<_}
 use native.Mathlib.Omega.{arith}
 use lib.ListN.{length, take, drop, length-take, length-drop}
 use lib.Seq.{take-add, drop-drop, take-all}
-use borrow.Author.Tests.{eq-eqb}
 use Rattle.rules_pdu.specs.Numbers.{F}
 use Rattle.rules_leaves.specs.Checksum.{sumOf}
 use Rattle.rules_pdu.specs.Layout.{fileData, Pdu}
 use Rattle.rules_pdu.specs.Decoding.{decode, isEofIn, fileDataOf}
 use Rattle.rules_pdu.specs.PduLaws.{Fit, Sayable}
 use Rattle.rules.specs.Tiles.{tiles}
-use Rattle.rules.specs.Demand.{Transfer, meant, planned, lastly, stretch}
+use Rattle.rules.specs.Demand.{Transfer, meant, planned, lastly, Tiled}
 use Rattle.rules.specs.Companions.{carried}
 use Rattle.types.specs.declared.Sending.{Sending}
 use Rattle.types.specs.declared.Sending.the-variants.{Nothing as NoPdu, Metadata as MetadataPdu, FileData, Eof as EofPdu, AckFinished}
 use Rattle.rules_pdu.proofs.Round.{round-trip, file-data, eof-seen}
-use Rattle.rules.proofs.Tiles.{Tiled, tiled-tiles, tiled-le, Within, tiles-within, sizes}
+use Rattle.rules.proofs.Tiles.{Tiling, tiled-tiles, tiled-le, Within, tiles-within, sizes}
 use Rattle.rules.proofs.Emits.{bytesOf}
 use Rattle.rules.proofs.Hold.{Small}
 
@@ -97,26 +96,28 @@ module _ (w : Transfer) (c : Carries w) where
   carried-sizes (EofPdu e ∷ ps) h = absurd h
   carried-sizes (AckFinished k ∷ ps) h = absurd h
 
-  stretch-tiled : (a b : ℕ) (ps : List Sending) → Tiled (w .segment) a b ps → b ≤ length (w .file)
-      → stretch a (map (bytesOf w) ps) ≡ some (take (b - a) (drop a (w .file)))
-  unfolding stretch
-  stretch-tiled a b [] h l = let z : b - a ≡ 0 = omega arith in rw z
-  stretch-tiled a b (NoPdu ∷ ps) h l = absurd h
-  stretch-tiled a b (MetadataPdu ∷ ps) h l = absurd h
-  stretch-tiled a b (FileData o n ∷ ps) h l =
+  tiles-tiled : (a b : ℕ) (ps : List Sending) → Tiling (w .segment) a b ps → b ≤ length (w .file)
+      → Tiled a (map (bytesOf w) ps) (take (b - a) (drop a (w .file)))
+  tiles-tiled a b [] h l = let z : b - a ≡ 0 = omega arith in rw z (Tiled.end a)
+  tiles-tiled a b (NoPdu ∷ ps) h l = absurd h
+  tiles-tiled a b (MetadataPdu ∷ ps) h l = absurd h
+  tiles-tiled a b (FileData o n ∷ ps) h l =
       let g = tiled-le (w .segment) (a + n) b ps (h .3) in
-      let e = data-of a n (omega arith) (h .2) in
       let m : b - a ≡ n + (b - (a + n)) = omega arith in
-      rw (h .0, e, eq-eqb a a refl, taken-length a n (omega arith), stretch-tiled (a + n) b ps (h .3) l, m, take-add, drop-drop)
-  stretch-tiled a b (EofPdu e ∷ ps) h l = absurd h
-  stretch-tiled a b (AckFinished k ∷ ps) h l = absurd h
+      let d = take n (drop a (w .file)) in
+      let bytes = take (b - (a + n)) (drop (a + n) (w .file)) in
+      rw (h .0, m, take-add, drop-drop)
+      (Tiled.piece a (bytesOf w (FileData a n)) (map (bytesOf w) ps) d bytes (data-of a n (omega arith) (h .2))
+      (rw (taken-length a n (omega arith)) (tiles-tiled (a + n) b ps (h .3) l)))
+  tiles-tiled a b (EofPdu e ∷ ps) h l = absurd h
+  tiles-tiled a b (AckFinished k ∷ ps) h l = absurd h
 
   -- metadata and all tiles: the file
-  pub planned-file : stretch 0 (map (bytesOf w) (planned w)) ≡ some (w .file)
-  unfolding stretch
+  pub planned-file : Tiled 0 (map (bytesOf w) (planned w)) (w .file)
   planned-file =
-      rw (metadata-of, stretch-tiled 0 (0 + length (w .file)) (tiles (w .segment) 0 (length (w .file))) (tiled-tiles (w .segment) 0 (length (w .file)) (c .pos)) (omega arith))
-      (ap some (take-all (0 + length (w .file) - 0) (w .file) (omega arith)))
+      let S = length (w .file) in
+      let t = tiles-tiled 0 (0 + S) (tiles (w .segment) 0 S) (tiled-tiles (w .segment) 0 S (c .pos)) (omega arith) in
+      Tiled.other 0 _ _ (w .file) metadata-of (rw (take-all (0 + S - 0) (w .file) (omega arith)) at t)
 
   pub planned-within : Within (w .segment) (length (w .file)) (planned w)
   planned-within = tiles-within (w .segment) (length (w .file)) 0 (length (w .file)) (c .pos) (omega arith)

@@ -74,15 +74,15 @@ tiles-one L a n p l =
 -- ---- where they lie
 
 -- PDUs that tile the bytes from a to b: data all, each beginning where the one before ended, none empty and none longer than L
-abbrev pub Tiled : ℕ → ℕ → ℕ → List Sending → Type 0
-Tiled L a b [] = a ≡ b
-Tiled L a b (NoPdu ∷ ps) = ⊥
-Tiled L a b (MetadataPdu ∷ ps) = ⊥
-Tiled L a b (FileData o n ∷ ps) = (o ≡ a) × (0 < n) × (n ≤ L) × Tiled L (a + n) b ps
-Tiled L a b (EofPdu e ∷ ps) = ⊥
-Tiled L a b (AckFinished c ∷ ps) = ⊥
+abbrev pub Tiling : ℕ → ℕ → ℕ → List Sending → Type 0
+Tiling L a b [] = a ≡ b
+Tiling L a b (NoPdu ∷ ps) = ⊥
+Tiling L a b (MetadataPdu ∷ ps) = ⊥
+Tiling L a b (FileData o n ∷ ps) = (o ≡ a) × (0 < n) × (n ≤ L) × Tiling L (a + n) b ps
+Tiling L a b (EofPdu e ∷ ps) = ⊥
+Tiling L a b (AckFinished c ∷ ps) = ⊥
 
-tiled-tilesOf : (k L a n : ℕ) → 0 < L → ceil n L ≡ k → Tiled L a (a + n) (tilesOf k L a n)
+tiled-tilesOf : (k L a n : ℕ) → 0 < L → ceil n L ≡ k → Tiling L a (a + n) (tilesOf k L a n)
 unfolding tilesOf
 tiled-tilesOf zero L a zero h e = omega arith
 tiled-tilesOf zero L a (suc n) h e = absurd (let c = ceil-step L (suc n) h (omega arith) in omega arith)
@@ -94,10 +94,10 @@ tiled-tilesOf (suc k) L a (suc n) h e = (refl, omega arith, omega arith, go (til
 
     -- the rest begins behind the first, or there is none
     go :
-        Tiled L (a + L) (a + L + (suc n - L)) (tilesOf k L (a + L) (suc n - L))
+        Tiling L (a + L) (a + L + (suc n - L)) (tilesOf k L (a + L) (suc n - L))
         → (t : Bool)
         → leb (suc n) L ≡ t
-        → Tiled L (a + min L (suc n)) (a + suc n) (tilesOf k L (a + L) (suc n - L))
+        → Tiling L (a + min L (suc n)) (a + suc n) (tilesOf k L (a + L) (suc n - L))
     go ih true w =
         let l = leb-true (suc n) L w in
         let z : suc n - L ≡ 0 = omega arith in
@@ -109,11 +109,11 @@ tiled-tilesOf (suc k) L a (suc n) h e = (refl, omega arith, omega arith, go (til
         let x : a + L + (suc n - L) ≡ a + suc n = omega arith in
         rw (m, ← x) ih
 
-pub tiled-tiles : (L a n : ℕ) → 0 < L → Tiled L a (a + n) (tiles L a n)
+pub tiled-tiles : (L a n : ℕ) → 0 < L → Tiling L a (a + n) (tiles L a n)
 unfolding tiles
 tiled-tiles L a n h = tiled-tilesOf (ceil n L) L a n h refl
 
-pub tiled-le : (L a b : ℕ) (ps : List Sending) → Tiled L a b ps → a ≤ b
+pub tiled-le : (L a b : ℕ) (ps : List Sending) → Tiling L a b ps → a ≤ b
 tiled-le L a b [] h = omega arith
 tiled-le L a b (NoPdu ∷ ps) h = absurd h
 tiled-le L a b (MetadataPdu ∷ ps) h = absurd h
@@ -160,7 +160,7 @@ within-rest L S (FileData o n) ps h = h .3
 within-rest L S (EofPdu e) ps h = absurd h
 within-rest L S (AckFinished c) ps h = absurd h
 
-tiled-within : (L S a b : ℕ) (ps : List Sending) → Tiled L a b ps → b ≤ S → Within L S ps
+tiled-within : (L S a b : ℕ) (ps : List Sending) → Tiling L a b ps → b ≤ S → Within L S ps
 tiled-within L S a b [] h l = tt
 tiled-within L S a b (NoPdu ∷ ps) h l = absurd h
 tiled-within L S a b (MetadataPdu ∷ ps) h l = absurd h
@@ -182,7 +182,7 @@ sizes (FileData o n ∷ ps) = n + sizes ps
 sizes (EofPdu e ∷ ps) = sizes ps
 sizes (AckFinished c ∷ ps) = sizes ps
 
-tiled-sizes : (L a b : ℕ) (ps : List Sending) → Tiled L a b ps → a + sizes ps ≡ b
+tiled-sizes : (L a b : ℕ) (ps : List Sending) → Tiling L a b ps → a + sizes ps ≡ b
 unfolding sizes
 tiled-sizes L a b [] h = omega arith
 tiled-sizes L a b (NoPdu ∷ ps) h = absurd h
@@ -213,3 +213,8 @@ pub answers-append : (L : ℕ) (q k : List SegmentRequest) → answers L (q ++ k
 unfolding answers
 answers-append L [] k = refl
 answers-append L (r ∷ q) k = rw (answers-append L q k, append-assoc (answer L r) (answers L q) (answers L k))
+
+pub weights-append : (L : ℕ) (q k : List SegmentRequest) → weights L (q ++ k) ≡ weights L q + weights L k
+unfolding weights
+weights-append L [] k = omega arith
+weights-append L (r ∷ q) k = let i = weights-append L q k in omega arith

@@ -10,7 +10,7 @@ use Rattle.rules.specs.Refusals.{answerNo}
 use Rattle.rules.specs.Put.{noRemote, putSpec}
 use Rattle.rules.specs.Step.{stepSpec}
 use Rattle.rules.specs.Cancel.{newSpec}
-use Rattle.rules.specs.Runs.{Call, put, deliver, step, Event, made, trace, behind}
+use Rattle.rules.specs.Runs.{Call, put, deliver, step, Shown, went, trace, behind}
 use Rattle.types.specs.declared.RemoteEntityConfig.{RemoteEntityConfig}
 use Rattle.types.specs.declared.LocalEntityConfig.{LocalEntityConfig}
 use Rattle.types.specs.declared.Choice.the-variants.{Default}
@@ -42,11 +42,11 @@ unfoldable pub request : PutRequest
 request = record { destination = (1, 2); unacknowledged = Default; closure = Default }
 
 -- "unacknowledged, .. packet maximum 17", and the same acknowledged
-abbrev pub unack : RemoteEntityConfig
-unack = remote true 17 1
+abbrev pub unackRemote : RemoteEntityConfig
+unackRemote = remote true 17 1
 
-abbrev pub ack : RemoteEntityConfig
-ack = remote false 17 1
+abbrev pub ackRemote : RemoteEntityConfig
+ackRemote = remote false 17 1
 
 abbrev pub a : List ℕ
 a = 0x61 ∷ []
@@ -60,33 +60,30 @@ file = 0x41 ∷ 0x42 ∷ 0x43 ∷ 0x44 ∷ 0x45 ∷ []
 -- ---- calls on a fresh handler
 
 -- steps that lend these bytes and a buffer of 17
-abbrev pub steps : ℕ → List ℕ → List Call
-steps n lent = replicate n (step lent false (replicate 17 0))
+abbrev pub stepCalls : ℕ → List ℕ → List Call
+stepCalls n lent = replicate n (step lent false (replicate 17 0))
 
 abbrev pub withPut : RemoteEntityConfig → List ℕ → List Call → List Call
 withPut r lent cs = put (config r) request a b (length lent) ∷ cs
 
--- what the host sees of the calls behind the put and the first n
-unfoldable pub run : ℕ → RemoteEntityConfig → List ℕ → List Call → List Event
+-- what the calls behind the put and the first n show the host
+unfoldable pub run : ℕ → RemoteEntityConfig → List ℕ → List Call → List Shown
 run n r lent cs = drop n (drop 1 (trace (withPut r lent cs) (newSpec (1, 7))))
-
-abbrev pub sent : List ℕ → Event
-sent pdu = made (some pdu)
 
 unfoldable pub stateBehind : RemoteEntityConfig → List Call → State
 stateBehind r cs = behind (withPut r file cs) (newSpec (1, 7))
 
--- the requests that are pending
-unfoldable pub owed : RemoteEntityConfig → List Call → ℕ
-owed r cs = stateBehind r cs .queue .count
+-- how many requests are pending
+unfoldable pub pendingCount : RemoteEntityConfig → List Call → ℕ
+pendingCount r cs = stateBehind r cs .queue .count
 
--- the fault event of the next step, with the expiry flag
-unfoldable pub fault : RemoteEntityConfig → List Call → FaultEvent
-fault r cs = stepSpec (stateBehind r cs) file true 17 .events .fault
+-- the fault event of the next step, made with the expiry flag
+unfoldable pub nextFault : RemoteEntityConfig → List Call → FaultEvent
+nextFault r cs = stepSpec (stateBehind r cs) file true 17 .events .fault
 
--- a put's number, and the large flag of its header
-unfoldable pub answered : RemoteEntityConfig → List ℕ → List ℕ → ℕ
-answered r source destination = answerNo (putSpec (newSpec (1, 7)) (config r) request source destination 5 .answer)
+-- the number that a put answers, and the large flag of its header
+unfoldable pub putNo : RemoteEntityConfig → List ℕ → List ℕ → ℕ
+putNo r source destination = answerNo (putSpec (newSpec (1, 7)) (config r) request source destination 5 .answer)
 
 unfoldable pub large : ℕ → Bool
 large S = putSpec (newSpec (1, 7)) (config (remote true 4096 1)) request a b S .state .fixed .head .large
@@ -96,8 +93,8 @@ large S = putSpec (newSpec (1, 7)) (config (remote true 4096 1)) request a b S .
 abbrev pub ackOfEof : Call
 ackOfEof = deliver (0x28 ∷ 0x00 ∷ 0x03 ∷ 0x00 ∷ 0x01 ∷ 0x07 ∷ 0x02 ∷ 0x06 ∷ 0x40 ∷ 0x01 ∷ [])
 
-abbrev pub finished : Call
-finished = deliver (0x28 ∷ 0x00 ∷ 0x02 ∷ 0x00 ∷ 0x01 ∷ 0x07 ∷ 0x02 ∷ 0x05 ∷ 0x02 ∷ [])
+abbrev pub finishedPdu : Call
+finishedPdu = deliver (0x28 ∷ 0x00 ∷ 0x02 ∷ 0x00 ∷ 0x01 ∷ 0x07 ∷ 0x02 ∷ 0x05 ∷ 0x02 ∷ [])
 
 -- a NAK of the scope (0, 5): what stands before its pairs, with a data field of n bytes
 abbrev pub nakFront : ℕ → List ℕ
@@ -125,49 +122,49 @@ Hold ((computed gives written) ∷ cs) = (computed ≡ written) × Hold cs
 abbrev pub byteCases : List Case
 byteCases =
     -- M1 to M4: "The whole stream, four steps"; a fifth emits nothing
-    (run 0 unack file (steps 5 file) gives
-    (sent (0x24 ∷ 0x00 ∷ 0x0A ∷ 0x00 ∷ 0x01 ∷ 0x07 ∷ 0x02 ∷ 0x07 ∷ 0x00 ∷ 0x00 ∷ 0x00 ∷ 0x00 ∷ 0x05 ∷ 0x01 ∷ 0x61 ∷ 0x01 ∷ 0x62 ∷ [])
-    ∷ sent (0x34 ∷ 0x00 ∷ 0x08 ∷ 0x00 ∷ 0x01 ∷ 0x07 ∷ 0x02 ∷ 0x00 ∷ 0x00 ∷ 0x00 ∷ 0x00 ∷ 0x41 ∷ 0x42 ∷ 0x43 ∷ 0x44 ∷ [])
-    ∷ sent (0x34 ∷ 0x00 ∷ 0x05 ∷ 0x00 ∷ 0x01 ∷ 0x07 ∷ 0x02 ∷ 0x00 ∷ 0x00 ∷ 0x00 ∷ 0x04 ∷ 0x45 ∷ [])
-    ∷ sent (0x24 ∷ 0x00 ∷ 0x0A ∷ 0x00 ∷ 0x01 ∷ 0x07 ∷ 0x02 ∷ 0x04 ∷ 0x00 ∷ 0x86 ∷ 0x42 ∷ 0x43 ∷ 0x44 ∷ 0x00 ∷ 0x00 ∷ 0x00 ∷ 0x05 ∷ [])
-    ∷ made none
+    (run 0 unackRemote file (stepCalls 5 file) gives
+    (went (some (0x24 ∷ 0x00 ∷ 0x0A ∷ 0x00 ∷ 0x01 ∷ 0x07 ∷ 0x02 ∷ 0x07 ∷ 0x00 ∷ 0x00 ∷ 0x00 ∷ 0x00 ∷ 0x05 ∷ 0x01 ∷ 0x61 ∷ 0x01 ∷ 0x62 ∷ []))
+    ∷ went (some (0x34 ∷ 0x00 ∷ 0x08 ∷ 0x00 ∷ 0x01 ∷ 0x07 ∷ 0x02 ∷ 0x00 ∷ 0x00 ∷ 0x00 ∷ 0x00 ∷ 0x41 ∷ 0x42 ∷ 0x43 ∷ 0x44 ∷ []))
+    ∷ went (some (0x34 ∷ 0x00 ∷ 0x05 ∷ 0x00 ∷ 0x01 ∷ 0x07 ∷ 0x02 ∷ 0x00 ∷ 0x00 ∷ 0x00 ∷ 0x04 ∷ 0x45 ∷ []))
+    ∷ went (some (0x24 ∷ 0x00 ∷ 0x0A ∷ 0x00 ∷ 0x01 ∷ 0x07 ∷ 0x02 ∷ 0x04 ∷ 0x00 ∷ 0x86 ∷ 0x42 ∷ 0x43 ∷ 0x44 ∷ 0x00 ∷ 0x00 ∷ 0x00 ∷ 0x05 ∷ []))
+    ∷ went none
     ∷ []))
     -- M5: "packet maximum 16: PacketLimit"; 17 is accepted
-    ∷ (answered (remote true 16 1) a b gives 8)
-    ∷ (answered (remote true 17 1) a b gives 0)
+    ∷ (putNo (remote true 16 1) a b gives 8)
+    ∷ (putNo (remote true 17 1) a b gives 0)
     -- M6: "S = 0: EOF at step 2"
-    ∷ (run 1 unack [] (steps 2 []) gives
-    (sent (0x24 ∷ 0x00 ∷ 0x0A ∷ 0x00 ∷ 0x01 ∷ 0x07 ∷ 0x02 ∷ 0x04 ∷ 0x00 ∷ 0x00 ∷ 0x00 ∷ 0x00 ∷ 0x00 ∷ 0x00 ∷ 0x00 ∷ 0x00 ∷ 0x00 ∷ [])
+    ∷ (run 1 unackRemote [] (stepCalls 2 []) gives
+    (went (some (0x24 ∷ 0x00 ∷ 0x0A ∷ 0x00 ∷ 0x01 ∷ 0x07 ∷ 0x02 ∷ 0x04 ∷ 0x00 ∷ 0x00 ∷ 0x00 ∷ 0x00 ∷ 0x00 ∷ 0x00 ∷ 0x00 ∷ 0x00 ∷ 0x00 ∷ []))
     ∷ []))
     -- M7: "sizes 4,294,967,295 and 4,294,967,296: Normal, Large"
     ∷ (large 4294967295 gives false)
     ∷ (large 4294967296 gives true)
     -- M8: "acknowledged, ACK(Finished, no error)"
-    ∷ (run 6 ack file (steps 4 file ++ ackOfEof ∷ finished ∷ steps 2 file) gives
-    (sent (0x20 ∷ 0x00 ∷ 0x03 ∷ 0x00 ∷ 0x01 ∷ 0x07 ∷ 0x02 ∷ 0x06 ∷ 0x51 ∷ 0x01 ∷ [])
-    ∷ made none
+    ∷ (run 6 ackRemote file (stepCalls 4 file ++ ackOfEof ∷ finishedPdu ∷ stepCalls 2 file) gives
+    (went (some (0x20 ∷ 0x00 ∷ 0x03 ∷ 0x00 ∷ 0x01 ∷ 0x07 ∷ 0x02 ∷ 0x06 ∷ 0x51 ∷ 0x01 ∷ []))
+    ∷ went none
     ∷ []))
     -- M9: "acknowledged, after all data, a NAK of pairs (0, 4), (0, 0) owes two": data, metadata; then the EOF
-    ∷ (owed ack (steps 3 file ++ nak04and00 ∷ []) gives 2)
-    ∷ (run 4 ack file (steps 3 file ++ nak04and00 ∷ steps 3 file) gives
-    (sent (0x30 ∷ 0x00 ∷ 0x08 ∷ 0x00 ∷ 0x01 ∷ 0x07 ∷ 0x02 ∷ 0x00 ∷ 0x00 ∷ 0x00 ∷ 0x00 ∷ 0x41 ∷ 0x42 ∷ 0x43 ∷ 0x44 ∷ [])
-    ∷ sent (0x20 ∷ 0x00 ∷ 0x0A ∷ 0x00 ∷ 0x01 ∷ 0x07 ∷ 0x02 ∷ 0x07 ∷ 0x00 ∷ 0x00 ∷ 0x00 ∷ 0x00 ∷ 0x05 ∷ 0x01 ∷ 0x61 ∷ 0x01 ∷ 0x62 ∷ [])
-    ∷ sent (0x20 ∷ 0x00 ∷ 0x0A ∷ 0x00 ∷ 0x01 ∷ 0x07 ∷ 0x02 ∷ 0x04 ∷ 0x00 ∷ 0x86 ∷ 0x42 ∷ 0x43 ∷ 0x44 ∷ 0x00 ∷ 0x00 ∷ 0x00 ∷ 0x05 ∷ [])
+    ∷ (pendingCount ackRemote (stepCalls 3 file ++ nak04and00 ∷ []) gives 2)
+    ∷ (run 4 ackRemote file (stepCalls 3 file ++ nak04and00 ∷ stepCalls 3 file) gives
+    (went (some (0x30 ∷ 0x00 ∷ 0x08 ∷ 0x00 ∷ 0x01 ∷ 0x07 ∷ 0x02 ∷ 0x00 ∷ 0x00 ∷ 0x00 ∷ 0x00 ∷ 0x41 ∷ 0x42 ∷ 0x43 ∷ 0x44 ∷ []))
+    ∷ went (some (0x20 ∷ 0x00 ∷ 0x0A ∷ 0x00 ∷ 0x01 ∷ 0x07 ∷ 0x02 ∷ 0x07 ∷ 0x00 ∷ 0x00 ∷ 0x00 ∷ 0x00 ∷ 0x05 ∷ 0x01 ∷ 0x61 ∷ 0x01 ∷ 0x62 ∷ []))
+    ∷ went (some (0x20 ∷ 0x00 ∷ 0x0A ∷ 0x00 ∷ 0x01 ∷ 0x07 ∷ 0x02 ∷ 0x04 ∷ 0x00 ∷ 0x86 ∷ 0x42 ∷ 0x43 ∷ 0x44 ∷ 0x00 ∷ 0x00 ∷ 0x00 ∷ 0x05 ∷ []))
     ∷ []))
     -- M10: "pair (0, 5) owes lengths 4 and 1"; then the EOF
-    ∷ (run 4 ack file (steps 3 file ++ nak05 ∷ steps 3 file) gives
-    (sent (0x30 ∷ 0x00 ∷ 0x08 ∷ 0x00 ∷ 0x01 ∷ 0x07 ∷ 0x02 ∷ 0x00 ∷ 0x00 ∷ 0x00 ∷ 0x00 ∷ 0x41 ∷ 0x42 ∷ 0x43 ∷ 0x44 ∷ [])
-    ∷ sent (0x30 ∷ 0x00 ∷ 0x05 ∷ 0x00 ∷ 0x01 ∷ 0x07 ∷ 0x02 ∷ 0x00 ∷ 0x00 ∷ 0x00 ∷ 0x04 ∷ 0x45 ∷ [])
-    ∷ sent (0x20 ∷ 0x00 ∷ 0x0A ∷ 0x00 ∷ 0x01 ∷ 0x07 ∷ 0x02 ∷ 0x04 ∷ 0x00 ∷ 0x86 ∷ 0x42 ∷ 0x43 ∷ 0x44 ∷ 0x00 ∷ 0x00 ∷ 0x00 ∷ 0x05 ∷ [])
+    ∷ (run 4 ackRemote file (stepCalls 3 file ++ nak05 ∷ stepCalls 3 file) gives
+    (went (some (0x30 ∷ 0x00 ∷ 0x08 ∷ 0x00 ∷ 0x01 ∷ 0x07 ∷ 0x02 ∷ 0x00 ∷ 0x00 ∷ 0x00 ∷ 0x00 ∷ 0x41 ∷ 0x42 ∷ 0x43 ∷ 0x44 ∷ []))
+    ∷ went (some (0x30 ∷ 0x00 ∷ 0x05 ∷ 0x00 ∷ 0x01 ∷ 0x07 ∷ 0x02 ∷ 0x00 ∷ 0x00 ∷ 0x00 ∷ 0x04 ∷ 0x45 ∷ []))
+    ∷ went (some (0x20 ∷ 0x00 ∷ 0x0A ∷ 0x00 ∷ 0x01 ∷ 0x07 ∷ 0x02 ∷ 0x04 ∷ 0x00 ∷ 0x86 ∷ 0x42 ∷ 0x43 ∷ 0x44 ∷ 0x00 ∷ 0x00 ∷ 0x00 ∷ 0x05 ∷ []))
     ∷ []))
     -- M11: "limit 1 faults at first expiry": cancel, condition 1, progress 5; limit 2 doesn't
-    ∷ (fault (remote false 17 1) (steps 4 file) gives Fault 1 1 5)
-    ∷ (fault (remote false 17 2) (steps 4 file) gives NoFault)
+    ∷ (nextFault (remote false 17 1) (stepCalls 4 file) gives Fault 1 1 5)
+    ∷ (nextFault (remote false 17 2) (stepCalls 4 file) gives NoFault)
     -- M12: "names C0 80 and ED A0 80 refused"
-    ∷ (answered unack (0xC0 ∷ 0x80 ∷ []) b gives 6)
-    ∷ (answered unack (0xED ∷ 0xA0 ∷ 0x80 ∷ []) b gives 6)
-    ∷ (answered unack a (0xC0 ∷ 0x80 ∷ []) gives 7)
-    ∷ (answered unack a (0xED ∷ 0xA0 ∷ 0x80 ∷ []) gives 7)
+    ∷ (putNo unackRemote (0xC0 ∷ 0x80 ∷ []) b gives 6)
+    ∷ (putNo unackRemote (0xED ∷ 0xA0 ∷ 0x80 ∷ []) b gives 6)
+    ∷ (putNo unackRemote a (0xC0 ∷ 0x80 ∷ []) gives 7)
+    ∷ (putNo unackRemote a (0xED ∷ 0xA0 ∷ 0x80 ∷ []) gives 7)
     ∷ []
 
 -- CASES byte-cases: the definitions give what document 01 writes, case by case.

@@ -5,7 +5,7 @@ use mathlib.Core.Path.{_≡_}
 use mathlib.Core.Bool.{Bool, true}
 use mathlib.Core.List.{List, [], _∷_, _++_, map}
 use mathlib.Core.Option.{Option, none, some}
-use Prim.Native.Nat.{ℕ, zero, suc, _+_, _^_, _<_, _≤_}
+use Prim.Native.Nat.{ℕ, _+_, _^_, _<_, _≤_}
 use lib.ListN.{length, take}
 use Rattle.basis.specs.Bytes.{Bytes}
 use Rattle.rules_pdu.specs.Fields.{wire}
@@ -20,14 +20,14 @@ use Rattle.rules.specs.Deliver.{deliverSpec}
 use Rattle.rules.specs.Step.{stepSpec}
 use Rattle.rules.specs.Cancel.{newSpec}
 use Rattle.rules.specs.Tiles.{ceil, answers, weights}
-use Rattle.rules.specs.Runs.{Call, put, deliver, step, cancel, reset, Event, turned, began, took, made, ended, trace, behind, Lends, steps, BeforeEof, NoPut, NoEnd, StepsOnly, requests, emitted, firstPass}
+use Rattle.rules.specs.Runs.{All, Call, step, trace, behind, Lends, requests, stepCount, emitted, Labelled, first, repair, labelled, firstPass, NoPut, NoEnd, BeforeEof, StepsOnly}
 use Rattle.types.specs.declared.Head.{Head}
 use Rattle.types.specs.declared.LocalEntityConfig.{LocalEntityConfig}
 use Rattle.types.specs.declared.PutRequest.{PutRequest}
 use Rattle.types.specs.declared.SegmentRequest.{SegmentRequest}
 use Rattle.types.specs.declared.Answer.the-variants.{Accepted}
 use Rattle.types.specs.declared.State.{State}
-use Rattle.rules.specs.Demand.{transferOf, meant, planned, lastly, onto}
+use Rattle.rules.specs.Demand.{transferOf, meant, planned, lastly}
 
 -- PROMISE live: with this file lent and an out buffer of at least the packet maximum, no step before the EOF is refused. So, by `early`, the EOF
 -- leaves once that many such steps were made.
@@ -43,12 +43,7 @@ Live =
 
 -- steps that lend the file and an out buffer of at least n bytes
 abbrev pub PlainSteps : List ℕ → ℕ → List Call → Type 0
-PlainSteps file n [] = Unit {0}
-PlainSteps file n (put c q a b S ∷ cs) = ⊥
-PlainSteps file n (deliver bytes ∷ cs) = ⊥
-PlainSteps file n (step lent expired out ∷ cs) = (lent ≡ file) × (n ≤ length out) × PlainSteps file n cs
-PlainSteps file n (cancel source number ∷ cs) = ⊥
-PlainSteps file n (reset ∷ cs) = ⊥
+PlainSteps file n cs = All (λ c. (expired : Bool) × (out : List ℕ) × (c ≡ step file expired out) × (n ≤ length out)) cs
 
 -- PROMISE plain-run: with nothing delivered, the first 2 + ceil(S/L) such steps emit the metadata, the file's tiles and the EOF.
 abbrev pub PlainRun : Type 0
@@ -61,13 +56,13 @@ PlainRun =
     → map decode (emitted (trace cs (putSpec h c q source destination (length file) .state))) ≡ map (meant w) (planned w ++ lastly w ∷ [])
 
 -- the number of bytes of file data in PDUs
-abbrev pub bytesOfData : Option (ℕ × List ℕ) → ℕ
-bytesOfData none = 0
-bytesOfData (some d) = length (d .1)
+abbrev pub dataLength : Option (ℕ × List ℕ) → ℕ
+dataLength none = 0
+dataLength (some d) = length (d .1)
 
 unfoldable pub carried : List (List ℕ) → ℕ
 carried [] = 0
-carried (b ∷ bs) = bytesOfData (fileDataOf b) + carried bs
+carried (pdu ∷ pdus) = dataLength (fileDataOf pdu) + carried pdus
 
 -- PROMISE progress-made: progress is the number of first-pass file bytes that have left.
 abbrev pub ProgressMade : Type 0
@@ -77,33 +72,27 @@ ProgressMade =
     → putSpec h c q source destination (length file) .answer ≡ Accepted
     → (cs : List Call) → Lends file cs
     → let s = putSpec h c q source destination (length file) .state in
+    let w = transferOf c q (h .number) source destination file in
     BeforeEof (trace cs s)
-    → behind cs s .file .progress ≡ carried (firstPass (transferOf c q (h .number) source destination file .segment) 0 (trace cs s))
+    → behind cs s .file .progress ≡ carried (firstPass (w .segment) (trace cs s))
 
--- PROMISE told-apart: repairs and first pass can also be told apart by offsets alone. First-pass data begins at the mark, the number of first-pass
--- bytes before it, and moves it; a repair's data lies below the mark.
-abbrev pub dataIn : Option (List ℕ) → Option (ℕ × List ℕ)
-dataIn none = none
-dataIn (some b) = fileDataOf b
-
+-- if there is file data, it begins at the mark
 abbrev pub BeginsAt : ℕ → Option (ℕ × List ℕ) → Type 0
 BeginsAt mark none = Unit {0}
 BeginsAt mark (some d) = d .0 ≡ mark
 
+-- if there is file data, it lies below the mark
 abbrev pub LiesBelow : ℕ → Option (ℕ × List ℕ) → Type 0
 LiesBelow mark none = Unit {0}
 LiesBelow mark (some d) = (d .0 < mark) × (d .0 + length (d .1) ≤ mark)
 
--- k as in `firstPass`
-abbrev pub Apart : ℕ → ℕ → ℕ → List Event → Type 0
-Apart L k mark [] = Unit {0}
-Apart L k mark (turned ∷ es) = Apart L k mark es
-Apart L k mark (began ∷ es) = Apart L k mark es
-Apart L k mark (took bytes ∷ es) = Apart L (k + weights L (requests bytes)) mark es
-Apart L zero mark (made d ∷ es) = BeginsAt mark (dataIn d) × Apart L zero (onto (dataIn d) mark) es
-Apart L (suc k) mark (made d ∷ es) = LiesBelow mark (dataIn d) × Apart L k mark es
-Apart L k mark (ended ∷ es) = Apart L k mark es
+-- The mark is the number of first-pass bytes that have left: the first pass begins at it and moves it, a repair lies below it.
+abbrev pub Apart : ℕ → List Labelled → Type 0
+Apart mark [] = Unit {0}
+Apart mark (first pdu ∷ xs) = BeginsAt mark (fileDataOf pdu) × Apart (mark + dataLength (fileDataOf pdu)) xs
+Apart mark (repair pdu ∷ xs) = LiesBelow mark (fileDataOf pdu) × Apart mark xs
 
+-- PROMISE told-apart: repairs and first pass can also be told apart by offsets alone.
 abbrev pub ToldApart : Type 0
 ToldApart =
     (h : State) (c : LocalEntityConfig) (q : PutRequest) (source destination file : List ℕ)
@@ -111,8 +100,9 @@ ToldApart =
     → putSpec h c q source destination (length file) .answer ≡ Accepted
     → (cs : List Call) → Lends file cs
     → let s = putSpec h c q source destination (length file) .state in
+    let w = transferOf c q (h .number) source destination file in
     BeforeEof (trace cs s)
-    → Apart (transferOf c q (h .number) source destination file .segment) 0 0 (trace cs s)
+    → Apart 0 (labelled (w .segment) 0 (trace cs s))
 
 -- PROMISE second-put: of the handler that it finds Idle, a put reads the sequence number and nothing else. A used one answers as a fresh one with
 -- that number, and after an accepted put shows the same for the same calls.
@@ -147,8 +137,8 @@ NakAnswered =
     → let t = deliverSpec (behind cs s) bytes .state in
     let w = transferOf c q (h .number) source destination file in
     let all = answers (w .segment) (pending (behind cs s .queue)) ++ answers (w .segment) (requests bytes) in
-    StepsOnly (trace ds t) → steps (trace ds t) ≤ length all
-    → map decode (emitted (trace ds t)) ≡ take (steps (trace ds t)) (map (meant w) all)
+    StepsOnly (trace ds t) → stepCount (trace ds t) ≤ length all
+    → map decode (emitted (trace ds t)) ≡ take (stepCount (trace ds t)) (map (meant w) all)
 
 -- PROMISE bench-sheet: a NAK of 41 requests, accepted with nothing pending: the next unrefused steps, as many as it owes PDUs, emit all pieces of
 -- each request in order.
@@ -164,5 +154,5 @@ BenchSheet =
     → (ds : List Call) → Lends file ds
     → let t = deliverSpec (behind cs s) bytes .state in
     let w = transferOf c q (h .number) source destination file in
-    StepsOnly (trace ds t) → steps (trace ds t) ≡ weights (w .segment) (requests bytes)
+    StepsOnly (trace ds t) → stepCount (trace ds t) ≡ weights (w .segment) (requests bytes)
     → map decode (emitted (trace ds t)) ≡ map (meant w) (answers (w .segment) (requests bytes))

@@ -1,6 +1,5 @@
 -- The third demand, on bytes: which PDUs leave after an accepted put, in which step the EOF leaves and what it says. Proof: proofs/Demand.antt.
--- To read it: (x : A) → .. is "for every x", P → Q "if P, then Q", P × Q "P and Q", P ↔ Q "exactly if"; x .f is the field f of x;
--- x ∷ l is a list that begins with x, ++ joins two; `map f l` is f of each.
+-- What the signs mean stands at the top of Calls.antt.
 -- Assumes nothing.
 use mathlib.Core.Path.{_≡_}
 use mathlib.Core.Logic.{_↔_}
@@ -8,17 +7,16 @@ use mathlib.Core.Bool.{Bool, true, false}
 use mathlib.Core.List.{List, [], _∷_, _++_, map}
 use mathlib.Core.Option.{Option, none, some}
 use Prim.Native.Nat.{ℕ, suc, _+_, _^_, _<_}
-use lib.Dec.{eqb}
 use lib.ListN.{length, take, drop}
-use Rattle.basis.specs.Pick.{pick}
+use Rattle.basis.specs.Pick.{_and_}
 use Rattle.basis.specs.Bytes.{Bytes}
 use Rattle.rules_pdu.specs.Numbers.{segmentLength}
 use Rattle.rules_leaves.specs.Checksum.{sumOf}
 use Rattle.rules_pdu.specs.Layout.{Said, metadata, fileData, eof, ackFinished, Pdu}
-use Rattle.rules_pdu.specs.Decoding.{withHead, decode, fileDataOf}
+use Rattle.rules_pdu.specs.Decoding.{withHead, decode, isEofIn, fileDataOf}
 use Rattle.rules.specs.Put.{entryOf, chosen, headOf, putSpec}
 use Rattle.rules.specs.Tiles.{ceil, tiles}
-use Rattle.rules.specs.Runs.{Call, Event, made, trace, Lends, steps, isEof, BeforeEof, NoPut, owed, R, firstPass, repairs}
+use Rattle.rules.specs.Runs.{Call, Shown, went, shows, trace, behind, LendsIn, Lends, stepCount, BeforeEof, NoPut, repairsOwed, R, firstPass, repairs}
 use Rattle.types.specs.declared.TransactionSeqNum.{TransactionSeqNum}
 use Rattle.types.specs.declared.Head.{Head}
 use Rattle.types.specs.declared.RemoteEntityConfig.{RemoteEntityConfig}
@@ -44,7 +42,7 @@ abbrev pub transferBy : RemoteEntityConfig → PutRequest → Head → List ℕ 
 transferBy e q h source destination file =
     record {
       head = h;
-      closure = pick (h .unacknowledged) (chosen (q .closure) (e .closure)) false;
+      closure = h .unacknowledged and chosen (q .closure) (e .closure);
       type = e .checksum;
       segment = segmentLength (e .maxsegment) (e .maxpacket) h;
       source = source;
@@ -82,62 +80,60 @@ lastly w = EofPdu (record { condition = 0; sum = sumOf (w .type) (w .file); size
 abbrev pub Front : {A : Type 0} → List A → List A → Type 0
 Front {A} xs ys = (rest : List A) × (xs ++ rest ≡ ys)
 
--- a piece of file data must begin where the one before ended; other PDUs are passed over
-abbrev pub onto : Option (ℕ × List ℕ) → ℕ → ℕ
-onto none at = at
-onto (some d) at = at + length (d .1)
+-- From offset `at` on, the file data of these PDUs are `bytes`: a piece begins where the one before ended, and PDUs without file data are passed over.
+pub data Tiled : (at : ℕ) → (pdus : List (List ℕ)) → (bytes : List ℕ) → Type 0 where
+  end : (at : ℕ) → Tiled at [] []
+  piece :
+      (at : ℕ) (pdu : List ℕ) (pdus : List (List ℕ)) (d bytes : List ℕ)
+      → fileDataOf pdu ≡ some (at, d) → Tiled (at + length d) pdus bytes
+      → Tiled at (pdu ∷ pdus) (d ++ bytes)
+  other :
+      (at : ℕ) (pdu : List ℕ) (pdus : List (List ℕ)) (bytes : List ℕ)
+      → fileDataOf pdu ≡ none → Tiled at pdus bytes
+      → Tiled at (pdu ∷ pdus) bytes
 
-abbrev pub joinedTo : Bool → List ℕ → Option (List ℕ) → Option (List ℕ)
-joinedTo true d none = none
-joinedTo true d (some l) = some (d ++ l)
-joinedTo false d l = none
+-- is what a step emitted an EOF
+abbrev pub isEof : Option (List ℕ) → Bool
+isEof none = false
+isEof (some pdu) = isEofIn pdu
 
-abbrev pub placed : Option (ℕ × List ℕ) → ℕ → Option (List ℕ) → Option (List ℕ)
-placed none at l = l
-placed (some d) at l = joinedTo (eqb (d .0) at) (d .1) l
-
--- the file data of PDUs joined, if the first piece begins at `at` and each other where the one before ended
-unfoldable pub stretch : ℕ → List (List ℕ) → Option (List ℕ)
-stretch at [] = some []
-stretch at (b ∷ bs) = placed (fileDataOf b) at (stretch (onto (fileDataOf b) at) bs)
-
--- ---- the demand. es are the events since the put, up to any moment before the EOF; L is w .segment, S is length (w .file)
+-- ---- the demand. es is what the calls since the put have shown, up to any moment before the EOF; L is w .segment, S is length (w .file)
 
 -- "the unrefused step numbered 2 + ceil(S/L) + R"; R counts the NAKs accepted so far
-abbrev pub eofStep : Transfer → List Event → ℕ
+abbrev pub eofStep : Transfer → List Shown → ℕ
 eofStep w es = 2 + ceil (length (w .file)) (w .segment) + R (w .segment) es
 
 -- before the EOF
-pub record SoFar (w : Transfer) (es : List Event) : Type 0 where
+pub record SoFar (w : Transfer) (es : List Shown) : Type 0 where
   -- the EOF's step is still to come
-  pub early : steps es < eofStep w es
+  pub early : stepCount es < eofStep w es
   -- each unrefused step has emitted one PDU
-  pub one-each : steps es ≡ length (firstPass (w .segment) 0 es) + length (repairs (w .segment) 0 es)
+  pub one-each : stepCount es ≡ length (firstPass (w .segment) es) + length (repairs (w .segment) es)
   -- those not owed to a NAK, read by the other side, are the first of the metadata and the file's tiles
-  pub tiling : Front (map decode (firstPass (w .segment) 0 es)) (map (meant w) (planned w))
+  pub tiling : Front (map decode (firstPass (w .segment) es)) (map (meant w) (planned w))
   -- those owed, read, are the first of the answers to the requests, in order
-  pub answering : Front (map decode (repairs (w .segment) 0 es)) (map (meant w) (owed (w .segment) es))
+  pub answering : Front (map decode (repairs (w .segment) es)) (map (meant w) (repairsOwed (w .segment) es))
   -- no other put was accepted
   pub no-put : NoPut es
 
--- when the EOF d leaves
-pub record AtEof (w : Transfer) (es : List Event) (d : List ℕ) : Type 0 where
+-- when the EOF `pdu` leaves
+pub record AtEof (w : Transfer) (es : List Shown) (pdu : List ℕ) : Type 0 where
   -- read, it says NoError, the file's checksum and S
-  pub says : decode d ≡ meant w (lastly w)
+  pub says : decode pdu ≡ meant w (lastly w)
   -- the metadata and the tiles have all left
-  pub tiled : map decode (firstPass (w .segment) 0 es) ≡ map (meant w) (planned w)
+  pub tiled : map decode (firstPass (w .segment) es) ≡ map (meant w) (planned w)
   -- and their data, each piece behind the one before, are the file
-  pub bytes : stretch 0 (firstPass (w .segment) 0 es) ≡ some (w .file)
+  pub bytes : Tiled 0 (firstPass (w .segment) es) (w .file)
   -- all that is owed has left
-  pub answered : map decode (repairs (w .segment) 0 es) ≡ map (meant w) (owed (w .segment) es)
+  pub answered : map decode (repairs (w .segment) es) ≡ map (meant w) (repairsOwed (w .segment) es)
 
--- The next unrefused step emits d: an EOF exactly if the step has that number.
-pub record AtStep (w : Transfer) (es : List Event) (d : Option (List ℕ)) : Type 0 where
-  pub when : (isEof d ≡ true) ↔ (suc (steps es) ≡ eofStep w es)
-  pub what : isEof d ≡ true → (b : List ℕ) × (d ≡ some b) × AtEof w es b
+-- when the next unrefused step emits d: an EOF exactly if the step has that number
+pub record AtStep (w : Transfer) (es : List Shown) (d : Option (List ℕ)) : Type 0 where
+  pub when : (isEof d ≡ true) ↔ (suc (stepCount es) ≡ eofStep w es)
+  pub what : isEof d ≡ true → (pdu : List ℕ) × (d ≡ some pdu) × AtEof w es pdu
 
--- PROMISE third-demand: after an accepted put of a file on any handler, fresh or used, over any calls whose steps lend this file: at every place of
--- the run with no EOF before it and no cancel or reset (es before it, fs behind it), what stands above. `decode` is the other side's reading, by
+-- PROMISE third-demand: after an accepted put of a file on any handler, fresh or used, and any calls that lend this file and show no EOF, no cancel and
+-- no reset, what stands above: of all that they have shown, and of the next call, if it is an unrefused step. `decode` is the other side's reading, by
 -- document 01's layouts and not by the writer's definitions.
 abbrev pub ThirdDemand : Type 0
 ThirdDemand =
@@ -145,6 +141,8 @@ ThirdDemand =
     → Bytes file → length file < 2 ^ 64
     → putSpec h c q source destination (length file) .answer ≡ Accepted
     → (cs : List Call) → Lends file cs
-    → (es fs : List Event) → trace cs (putSpec h c q source destination (length file) .state) ≡ es ++ fs → BeforeEof es
-    → let w = transferOf c q (h .number) source destination file in
-    SoFar w es × ((d : Option (List ℕ)) (gs : List Event) → fs ≡ made d ∷ gs → AtStep w es d)
+    → let s = putSpec h c q source destination (length file) .state in
+    let w = transferOf c q (h .number) source destination file in
+    BeforeEof (trace cs s)
+    → SoFar w (trace cs s)
+    × ((next : Call) (d : Option (List ℕ)) → LendsIn file next → shows next (behind cs s) ≡ went d → AtStep w (trace cs s) d)

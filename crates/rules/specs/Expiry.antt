@@ -9,7 +9,7 @@ use lib.ListN.{length, replicate}
 use Rattle.rules_pdu.specs.Layout.{eof, encode}
 use Rattle.rules.specs.States.{withMarks, counted}
 use Rattle.rules.specs.Step.{faultDue, dueOf}
-use Rattle.rules.specs.Runs.{Call, step, made, trace, behind}
+use Rattle.rules.specs.Runs.{Call, step, went, trace, behind}
 use Rattle.types.specs.declared.Fixed.{Fixed}
 use Rattle.types.specs.declared.State.{State}
 use Rattle.types.specs.declared.TransactionStep.the-variants.{WaitingForEofAck}
@@ -43,7 +43,7 @@ expiries k file out = replicate k (step file true out)
 
 pub record CountedFrom (s : State) (file out : List ℕ) : Type 0 where
   -- each of these steps emits the kept EOF's bytes again
-  pub emits : (k : ℕ) → k ≤ repeatsLeft s → trace (expiries k file out) s ≡ replicate k (made (some (keptPdu s)))
+  pub resends : (k : ℕ) → k ≤ repeatsLeft s → trace (expiries k file out) s ≡ replicate k (went (some (keptPdu s)))
   -- and moves the count by one, and nothing else of the state
   pub counts : (k : ℕ) → k ≤ repeatsLeft s → behind (expiries k file out) s ≡ recounted s (s .marks .count + k)
   -- the step behind the last of them declares fault 1

@@ -18,7 +18,7 @@ use Rattle.rules.specs.Put.{putSpec}
 use Rattle.rules.specs.Deliver.{deliverSpec}
 use Rattle.rules.specs.Step.{bytesDue, stepSpec}
 use Rattle.rules.specs.Cancel.{cancelSpec, resetSpec, newSpec}
-use Rattle.rules.specs.Runs.{Call, put, deliver, step, cancel, reset, behind}
+use Rattle.rules.specs.Runs.{All, Call, put, deliver, step, cancel, reset, behind}
 use Rattle.rules.specs.Exactly.{KnownType, OneUnknown}
 use Rattle.types.specs.declared.EntityId.{EntityId}
 use Rattle.types.specs.declared.TransactionSeqNum.{TransactionSeqNum}
@@ -134,14 +134,16 @@ pub record GoodKept : Type 0 where
   pub cancel : (s : State) (source : EntityId) (number : TransactionSeqNum) → Good s → Good (cancelSpec s source number .state)
   pub reset : (s : State) → Good s → Good (resetSpec s)
 
--- calls with bytes that are bytes, and a size of 64 bits
+-- a call with bytes that are bytes, and a size of 64 bits
+abbrev pub ProperCall : Call → Type 0
+ProperCall (put c q source destination S) = S < 2 ^ 64
+ProperCall (deliver bytes) = Bytes bytes
+ProperCall (step lent expired out) = Bytes lent
+ProperCall (cancel source number) = Unit {0}
+ProperCall reset = Unit {0}
+
 abbrev pub Proper : List Call → Type 0
-Proper [] = Unit {0}
-Proper (put c q source destination S ∷ cs) = (S < 2 ^ 64) × Proper cs
-Proper (deliver bytes ∷ cs) = Bytes bytes × Proper cs
-Proper (step lent expired out ∷ cs) = Bytes lent × Proper cs
-Proper (cancel source number ∷ cs) = Proper cs
-Proper (reset ∷ cs) = Proper cs
+Proper cs = All ProperCall cs
 
 -- PROMISE always-good: whatever calls are made on a new handler, its state is good.
 abbrev pub AlwaysGood : Type 0

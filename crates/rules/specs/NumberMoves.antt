@@ -2,27 +2,26 @@
 -- Assumes nothing.
 use mathlib.Core.Path.{_≡_}
 use mathlib.Core.List.{List, [], _∷_}
-use Prim.Native.Nat.{ℕ, _+_, _*_, _^_, _<_}
 use Rattle.rules_pdu.specs.Numbers.{numberAfter}
-use Rattle.rules.specs.Runs.{Call, Event, turned, began, took, made, ended, after, seen, trace, behind}
+use Rattle.rules.specs.Runs.{Call, Shown, turned, began, took, went, ended, after, shows, trace, behind}
 use Rattle.types.specs.declared.TransactionSeqNum.{TransactionSeqNum}
 use Rattle.types.specs.declared.State.{State}
 
 -- an accepted put moves it by one; a refused call, a delivery, a step, a cancel or a reset leaves it
-abbrev pub moves : Event → TransactionSeqNum → TransactionSeqNum
+abbrev pub moves : Shown → TransactionSeqNum → TransactionSeqNum
 moves turned n = n
 moves began n = numberAfter n
 moves (took bytes) n = n
-moves (made pdu) n = n
+moves (went pdu) n = n
 moves ended n = n
 
-unfoldable pub movesAll : List Event → TransactionSeqNum → TransactionSeqNum
+unfoldable pub movesAll : List Shown → TransactionSeqNum → TransactionSeqNum
 movesAll [] n = n
 movesAll (e ∷ es) n = movesAll es (moves e n)
 
--- PROMISE number-moves: after any call the number is what the call's event makes of it.
+-- PROMISE number-moves: after any call the number is what `moves` makes of it, by what the call shows.
 abbrev pub NumberMoves : Type 0
-NumberMoves = (c : Call) (s : State) → after c s .number ≡ moves (seen c s) (s .number)
+NumberMoves = (c : Call) (s : State) → after c s .number ≡ moves (shows c s) (s .number)
 
 -- PROMISE number-behind: so after any calls it was moved once by each accepted put, and by nothing else.
 abbrev pub NumberBehind : Type 0

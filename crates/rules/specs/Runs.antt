@@ -1,13 +1,15 @@
--- A run: calls of any kind made one after another, what the host sees of each, and what can be counted from that alone.
--- From the heading "what can be counted" on, nothing looks into the handler.
+-- A run: calls of any kind made one after another, what each shows the host, and what can be counted from that alone.
+-- From the heading "what can be counted" on, nothing looks into the handler. `flatMap f l` is f of each element of l, joined; `λ e. P` is P, said of e.
 -- Assumes nothing.
 use mathlib.Core.Path.{_≡_}
-use mathlib.Core.Bool.{Bool, false}
-use mathlib.Core.List.{List, [], _∷_, _++_}
+use mathlib.Core.Logic.{_⊎_}
+use mathlib.Core.Bool.{Bool, true, false}
+use mathlib.Core.List.{List, [], _∷_, _++_, map, flatMap}
 use mathlib.Core.Option.{Option, none, some}
 use Prim.Native.Nat.{ℕ, zero, suc, _+_, _-_}
+use lib.Dec.{ltb}
 use lib.ListN.{length, take}
-use Rattle.basis.specs.Pick.{pick}
+use Rattle.basis.specs.Pick.{pick, flag}
 use Rattle.basis.specs.Bytes.{part}
 use Rattle.rules_pdu.specs.Reading.{framedIn, bodyOf}
 use Rattle.rules_pdu.specs.Decoding.{isEofIn}
@@ -31,7 +33,19 @@ use Rattle.types.specs.declared.Answer.the-variants.{Accepted, Refused}
 use Rattle.types.specs.declared.Sending.{Sending}
 use Rattle.types.specs.declared.State.{State}
 
--- ---- calls and events
+-- ---- lists
+
+-- each element has the property (`Unit {0}` always holds)
+abbrev pub All : {A : Type 0} → (A → Type 0) → List A → Type 0
+All P [] = Unit {0}
+All P (x ∷ xs) = P x × All P xs
+
+-- the elements that pass the test, in their order
+abbrev pub those : {A : Type 0} → (A → Bool) → List A → List A
+those test [] = []
+those test (x ∷ xs) = pick (test x) (x ∷ those test xs) (those test xs)
+
+-- ---- calls, and what they show
 
 -- a step lends the file and the out buffer
 pub data Call : Type 0 where
@@ -41,13 +55,13 @@ pub data Call : Type 0 where
   cancel : (source : EntityId) → (number : TransactionSeqNum) → Call
   reset : Call
 
--- what the host sees of a call
-pub data Event : Type 0 where
-  turned : Event  -- refused, or a cancel that answers no
-  began : Event  -- an accepted put
-  took : (bytes : List ℕ) → Event  -- an accepted delivery
-  made : (pdu : Option (List ℕ)) → Event  -- an unrefused step: the PDU's bytes in the out buffer, or none
-  ended : Event  -- a cancel that answers yes, or a reset
+-- what a call shows the host
+pub data Shown : Type 0 where
+  turned : Shown  -- refused, or a cancel that answers no
+  began : Shown  -- an accepted put
+  took : (bytes : List ℕ) → Shown  -- an accepted delivery
+  went : (pdu : Option (List ℕ)) → Shown  -- an unrefused step: the PDU's bytes in the out buffer, or none
+  ended : Shown  -- a cancel that answers yes, or a reset
 
 -- the state after a call
 abbrev pub after : Call → State → State
@@ -58,7 +72,7 @@ after (cancel source number) s = cancelSpec s source number .state
 after reset s = resetSpec s
 
 -- what an accepted call shows; a refused one is turned
-abbrev pub unless : Answer → Event → Event
+abbrev pub unless : Answer → Shown → Shown
 unless Accepted e = e
 unless (Refused r) e = turned
 
@@ -67,19 +81,19 @@ abbrev pub pduIn : ℕ → List ℕ → Option (List ℕ)
 pduIn zero out = none
 pduIn (suc n) out = some (take (suc n) out)
 
-abbrev pub seen : Call → State → Event
-seen (put c q a b S) s = unless (putSpec s c q a b S .answer) began
-seen (deliver bytes) s = unless (deliverSpec s bytes .answer) (took bytes)
-seen (step lent expired out) s =
+abbrev pub shows : Call → State → Shown
+shows (put c q a b S) s = unless (putSpec s c q a b S .answer) began
+shows (deliver bytes) s = unless (deliverSpec s bytes .answer) (took bytes)
+shows (step lent expired out) s =
     let r = stepSpec s lent expired (length out) in
-    unless (r .answer) (made (pduIn (r .length) (stepBytes s lent expired out)))
-seen (cancel source number) s = pick (cancelSpec s source number .yes) ended turned
-seen reset s = ended
+    unless (r .answer) (went (pduIn (r .length) (stepBytes s lent expired out)))
+shows (cancel source number) s = pick (cancelSpec s source number .yes) ended turned
+shows reset s = ended
 
--- the events of a run, and the state behind it
-unfoldable pub trace : List Call → State → List Event
+-- what the calls of a run show, one after another, and the state behind it
+unfoldable pub trace : List Call → State → List Shown
 trace [] s = []
-trace (c ∷ cs) s = seen c s ∷ trace cs (after c s)
+trace (c ∷ cs) s = shows c s ∷ trace cs (after c s)
 
 unfoldable pub behind : List Call → State → State
 behind [] s = s
@@ -87,66 +101,12 @@ behind (c ∷ cs) s = behind cs (after c s)
 
 -- "the same file lent throughout": a step that lends as many bytes lends this file. (Steps that lend another length are refused by 30.)
 abbrev pub LendsIn : List ℕ → Call → Type 0
-LendsIn file (put c q a b S) = Unit {0}
-LendsIn file (deliver bytes) = Unit {0}
-LendsIn file (step lent expired out) = length lent ≡ length file → lent ≡ file
-LendsIn file (cancel source number) = Unit {0}
-LendsIn file reset = Unit {0}
+LendsIn file c = (lent : List ℕ) (expired : Bool) (out : List ℕ) → c ≡ step lent expired out → length lent ≡ length file → lent ≡ file
 
 abbrev pub Lends : List ℕ → List Call → Type 0
-Lends file [] = Unit {0}
-Lends file (c ∷ cs) = LendsIn file c × Lends file cs
+Lends file cs = All (LendsIn file) cs
 
--- ---- what can be counted from the events
-
--- the steps that were not refused
-unfoldable pub steps : List Event → ℕ
-steps [] = 0
-steps (turned ∷ es) = steps es
-steps (began ∷ es) = steps es
-steps (took bytes ∷ es) = steps es
-steps (made d ∷ es) = suc (steps es)
-steps (ended ∷ es) = steps es
-
-abbrev pub isEof : Option (List ℕ) → Bool
-isEof none = false
-isEof (some b) = isEofIn b
-
--- no EOF has left, no cancel was taken and no reset was made
-abbrev pub BeforeEof : List Event → Type 0
-BeforeEof [] = Unit {0}
-BeforeEof (turned ∷ es) = BeforeEof es
-BeforeEof (began ∷ es) = BeforeEof es
-BeforeEof (took bytes ∷ es) = BeforeEof es
-BeforeEof (made d ∷ es) = (isEof d ≡ false) × BeforeEof es
-BeforeEof (ended ∷ es) = ⊥
-
--- no put was accepted
-abbrev pub NoPut : List Event → Type 0
-NoPut [] = Unit {0}
-NoPut (turned ∷ es) = NoPut es
-NoPut (began ∷ es) = ⊥
-NoPut (took bytes ∷ es) = NoPut es
-NoPut (made d ∷ es) = NoPut es
-NoPut (ended ∷ es) = NoPut es
-
--- no cancel was taken and no reset was made
-abbrev pub NoEnd : List Event → Type 0
-NoEnd [] = Unit {0}
-NoEnd (turned ∷ es) = NoEnd es
-NoEnd (began ∷ es) = NoEnd es
-NoEnd (took bytes ∷ es) = NoEnd es
-NoEnd (made d ∷ es) = NoEnd es
-NoEnd (ended ∷ es) = ⊥
-
--- no call but steps was accepted
-abbrev pub StepsOnly : List Event → Type 0
-StepsOnly [] = Unit {0}
-StepsOnly (turned ∷ es) = StepsOnly es
-StepsOnly (began ∷ es) = ⊥
-StepsOnly (took bytes ∷ es) = ⊥
-StepsOnly (made d ∷ es) = StepsOnly es
-StepsOnly (ended ∷ es) = ⊥
+-- ---- what can be counted
 
 -- the requests in a delivery's bytes: a NAK's pairs; none in any other
 abbrev pub requestsOfBody : List ℕ → Frame → Body → List SegmentRequest
@@ -161,51 +121,89 @@ requestsOfFrame bytes (Whole f) = requestsOfBody bytes f (bodyOf f (part bytes (
 unfoldable pub requests : List ℕ → List SegmentRequest
 requests bytes = requestsOfFrame bytes (framedIn bytes)
 
--- the PDUs that the NAKs accepted so far owe, in order; and R, the number of them
-unfoldable pub owed : ℕ → List Event → List Sending
-owed L [] = []
-owed L (turned ∷ es) = owed L es
-owed L (began ∷ es) = owed L es
-owed L (took bytes ∷ es) = answers L (requests bytes) ++ owed L es
-owed L (made d ∷ es) = owed L es
-owed L (ended ∷ es) = owed L es
+-- of one entry of a run: the requests of an accepted delivery
+abbrev pub asks : Shown → List SegmentRequest
+asks turned = []
+asks began = []
+asks (took bytes) = requests bytes
+asks (went pdu) = []
+asks ended = []
 
-unfoldable pub R : ℕ → List Event → ℕ
-R L [] = 0
-R L (turned ∷ es) = R L es
-R L (began ∷ es) = R L es
-R L (took bytes ∷ es) = weights L (requests bytes) + R L es
-R L (made d ∷ es) = R L es
-R L (ended ∷ es) = R L es
+-- the PDU that an unrefused step emitted
+abbrev pub emits : Shown → List (List ℕ)
+emits turned = []
+emits began = []
+emits (took bytes) = []
+emits (went none) = []
+emits (went (some pdu)) = pdu ∷ []
+emits ended = []
 
-abbrev pub list : Option (List ℕ) → List (List ℕ)
-list none = []
-list (some b) = b ∷ []
+-- is it an unrefused step
+abbrev pub isStep : Shown → Bool
+isStep turned = false
+isStep began = false
+isStep (took bytes) = false
+isStep (went pdu) = true
+isStep ended = false
+
+-- of a run: how many unrefused steps there were
+abbrev pub stepCount : List Shown → ℕ
+stepCount es = length (those isStep es)
 
 -- the emitted PDUs
-unfoldable pub emitted : List Event → List (List ℕ)
-emitted [] = []
-emitted (turned ∷ es) = emitted es
-emitted (began ∷ es) = emitted es
-emitted (took bytes ∷ es) = emitted es
-emitted (made d ∷ es) = list d ++ emitted es
-emitted (ended ∷ es) = emitted es
+abbrev pub emitted : List Shown → List (List ℕ)
+emitted es = flatMap emits es
 
--- The emitted PDUs, told apart. k is how many PDUs are owed to NAKs and not yet emitted: while there are any, an emitted PDU is a repair.
-unfoldable pub firstPass : ℕ → ℕ → List Event → List (List ℕ)
-firstPass L k [] = []
-firstPass L k (turned ∷ es) = firstPass L k es
-firstPass L k (began ∷ es) = firstPass L k es
-firstPass L k (took bytes ∷ es) = firstPass L (k + weights L (requests bytes)) es
-firstPass L zero (made d ∷ es) = list d ++ firstPass L zero es
-firstPass L (suc k) (made d ∷ es) = firstPass L k es
-firstPass L k (ended ∷ es) = firstPass L k es
+-- the requests of all NAKs accepted so far, the PDUs that they owe, in order, and R, the number of these
+abbrev pub requested : List Shown → List SegmentRequest
+requested es = flatMap asks es
 
-unfoldable pub repairs : ℕ → ℕ → List Event → List (List ℕ)
-repairs L k [] = []
-repairs L k (turned ∷ es) = repairs L k es
-repairs L k (began ∷ es) = repairs L k es
-repairs L k (took bytes ∷ es) = repairs L (k + weights L (requests bytes)) es
-repairs L zero (made d ∷ es) = repairs L zero es
-repairs L (suc k) (made d ∷ es) = list d ++ repairs L k es
-repairs L k (ended ∷ es) = repairs L k es
+abbrev pub repairsOwed : ℕ → List Shown → List Sending
+repairsOwed L es = answers L (requested es)
+
+abbrev pub R : ℕ → List Shown → ℕ
+R L es = weights L (requested es)
+
+-- ---- first pass and repairs
+
+-- an emitted PDU is a repair if a PDU was owed to a NAK when it left, else it is of the first pass
+pub data Labelled : Type 0 where
+  first : (pdu : List ℕ) → Labelled
+  repair : (pdu : List ℕ) → Labelled
+
+-- The emitted PDUs. k is how many PDUs are owed to NAKs and have not left: an accepted NAK adds what it owes, an unrefused step takes one off.
+unfoldable pub labelled : ℕ → ℕ → List Shown → List Labelled
+labelled L k [] = []
+labelled L k (e ∷ es) = map (pick (ltb 0 k) repair first) (emits e) ++ labelled L (k + weights L (asks e) - flag (isStep e)) es
+
+abbrev pub ofFirst : Labelled → List (List ℕ)
+ofFirst (first pdu) = pdu ∷ []
+ofFirst (repair pdu) = []
+
+abbrev pub ofRepair : Labelled → List (List ℕ)
+ofRepair (first pdu) = []
+ofRepair (repair pdu) = pdu ∷ []
+
+abbrev pub firstPass : ℕ → List Shown → List (List ℕ)
+firstPass L es = flatMap ofFirst (labelled L 0 es)
+
+abbrev pub repairs : ℕ → List Shown → List (List ℕ)
+repairs L es = flatMap ofRepair (labelled L 0 es)
+
+-- ---- what a run does not show
+
+-- no put was accepted
+abbrev pub NoPut : List Shown → Type 0
+NoPut es = All (λ e. ¬ (e ≡ began)) es
+
+-- no cancel was taken and no reset was made
+abbrev pub NoEnd : List Shown → Type 0
+NoEnd es = All (λ e. ¬ (e ≡ ended)) es
+
+-- no EOF has left, no cancel was taken and no reset was made
+abbrev pub BeforeEof : List Shown → Type 0
+BeforeEof es = NoEnd es × All (λ pdu. isEofIn pdu ≡ false) (emitted es)
+
+-- no call but steps was accepted
+abbrev pub StepsOnly : List Shown → Type 0
+StepsOnly es = All (λ e. (e ≡ turned) ⊎ (isStep e ≡ true)) es
