@@ -1,6 +1,7 @@
 -- The definition's tests, said by what the callees found, are the tests that the code made.
 -- Assumes nothing.
-use Rattle.basis.proofs.Pick.{picks, told, via}
+use borrow.Author.Tests.{le-ltb, eq-eqb, not-false}
+use Rattle.basis.proofs.Pick.{pick-t, pick-f, picks, told, via}
 use Rattle.rules_pdu.specs.Reading.{wellFramed}
 use borrow.Author.Needs.{needs}
 use Rattle.pdu_read.proofs.header.well_framed.Statement.{statement}
@@ -76,7 +77,7 @@ returns-7 c =
     let n = e .before .before in
     let i = n .before .before in
     let v = i .before .before in
-    rw (← (c .crc-agrees .ensures), ← (e .pdu-end .ensures .0), ← (d .data-length .ensures .0), ← (h .has-crc .ensures), ← (n .good-seq-width .ensures), ← (i .good-id-width .ensures), ← (v .version .ensures)) (search picks depth 12)
+    rw (← (c .crc-agrees .ensures), ← (e .pdu-end .ensures .0), ← (d .data-length .ensures .0), ← (h .has-crc .ensures), ← (n .good-seq-width .ensures), ← (i .good-id-width .ensures), ← (v .version .ensures)) (search (pick-t, pick-f, le-ltb, eq-eqb, not-false) depth 12)
 
 returns-8 : tie.Need-returns-8
 unfolding wellFramed
