@@ -16,10 +16,10 @@ use Rattle.basis.proofs.Pick.{cases}
 use Rattle.rules_pdu.specs.Numbers.{F}
 use Rattle.rules_leaves.specs.Checksum.{crc16}
 use Rattle.rules_pdu.specs.Reading.{endIn, headIn, crcAgrees, wellFramed, frameIn, framedIn, bodyIn, fileDataIn, toSenderIn, largeIn, reserved, finishedParams, finishedIn, ackIn, requestCount, nakIn, keepAliveIn, directiveIn, directed, bodyOf}
-use Rattle.rules.specs.Refusals.{answerNo}
+use Rattle.rules.specs.Refusals.{answerNo, refused}
 use Rattle.rules.specs.States.{isIdle}
 use Rattle.rules.specs.Queues.{invalid, anyInvalid, owing, free}
-use Rattle.rules.specs.Deliver.{stepNo, verdictOf, sameTransaction, takesNak, nakOf, requestsIn, byVerdict, refused, heard, byBody, byFrame, deliverSpec}
+use Rattle.rules.specs.Deliver.{stepNo, verdictOf, sameTransaction, takesNak, nakOf, requestsIn, byVerdict, heard, byBody, byFrame, deliverSpec}
 use Rattle.rules.specs.Exactly.{Rule, _when_, NoFrame, Reserved, BadFinished, BadAck, BadNak, Unread, BadBody, CantBody, NoNak, Unexpected, Differs, OneInvalid, pairsIn, deliverRules, DeliverExactly}
 use Rattle.types.specs.declared.Head.{Head}
 use Rattle.types.specs.declared.Frame.{Frame}

@@ -12,14 +12,14 @@ use Rattle.basis.specs.Bytes.{part}
 use Rattle.basis.specs.Laid.{inFront}
 use Rattle.basis.proofs.Pick.{cases}
 use Rattle.rules_pdu.specs.Reading.{framedIn, bodyOf}
-use Rattle.rules.specs.Refusals.{answerNo}
+use Rattle.rules.specs.Refusals.{answerNo, byAnswer}
 use Rattle.rules.specs.States.{isIdle}
 use Rattle.rules.specs.Queues.{isMetadata, owes, anyInvalid, owing, free}
-use Rattle.rules.specs.Put.{putAnswer, putState, byAnswer, putSpec}
+use Rattle.rules.specs.Put.{putAnswer, putState, putSpec}
 use Rattle.rules.specs.Deliver.{stepNo, verdictOf, sameTransaction, takesNak, nakOf, asked, byVerdict, heard, byBody, byFrame, deliverSpec}
 use Rattle.rules.specs.Step.{dueOf, afterOf, eventsOf, changed, refusedStep, bytesDue, made, stepSpec, stepBytes}
 use Rattle.rules.specs.Cancel.{canCancel, mayCancel, userCancelled, cancelSpec}
-use Rattle.rules.specs.Exactly.{stepRules, StepExactly, CancelExactly, CancelMarks, OwesExactly, Counted, none, one, other, OwingExactly, NoEvents, RefusalChangesNothing}
+use Rattle.rules.specs.Exactly.{stepRules, StepExactly, CancelExactly, CancelMarks, OwesExactly, Counted, empty, one, other, OwingExactly, NoEvents, RefusalChangesNothing}
 use Rattle.types.specs.declared.EntityId.{EntityId}
 use Rattle.types.specs.declared.TransactionSeqNum.{TransactionSeqNum}
 use Rattle.types.specs.declared.SegmentRequest.{SegmentRequest}
@@ -108,7 +108,7 @@ owes-exactly r = tells-iff (search tests)
 
 counted-owing : (rs : List SegmentRequest) → Counted rs (owing rs)
 unfolding owing
-counted-owing [] = none
+counted-owing [] = empty
 counted-owing (r ∷ rs) =
     cases (λ (n : ℕ). Counted (r ∷ rs) n) (owes r) _ _ (λ e. one r rs (owing rs) e (counted-owing rs)) (λ e. other r rs (owing rs) e (counted-owing rs))
 

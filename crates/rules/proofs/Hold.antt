@@ -13,9 +13,10 @@ use lib.ListN.{length}
 use lib.Seq.{take-length}
 use borrow.Author.Tests.{eqb-true, eqb-false, ltb-true, ltb-false}
 use Rattle.basis.specs.Pick.{pick}
+use Rattle.rules.specs.Refusals.{refused, accepted}
 use Rattle.rules.specs.States.{isIdle, toStep, withQueue}
 use Rattle.rules.specs.Queues.{pending, oldest, pop, piece, served, isMetadata}
-use Rattle.rules.specs.Deliver.{refused, accepted, nakOf, verdictOf, byVerdict, asked, requestsIn, deliverSpec}
+use Rattle.rules.specs.Deliver.{nakOf, verdictOf, byVerdict, asked, requestsIn, deliverSpec}
 use Rattle.rules.specs.Step.{eofOwed, dueAt, dueOf, eofFor, repairOf, nextLength, sendingOf, afterMetadata, afterData, onward, afterOf}
 use Rattle.rules.specs.Tiles.{tiles, answers}
 use Rattle.rules.specs.Runs.{Call, put, deliver, step, cancel, reset, Event, turned, took, made, ended, after, unless, seen, LendsIn, requests}

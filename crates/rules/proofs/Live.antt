@@ -16,9 +16,10 @@ use Rattle.rules_pdu.specs.Numbers.{H, F, C}
 use Rattle.rules_pdu.specs.Layout.{encodeHeard, nak, pduLength, Pdu}
 use Rattle.rules_pdu.specs.Reading.{frameIn, headIn, bodyIn, bodyOf, requestsFrom}
 use Rattle.rules_pdu.specs.PduLaws.{firstPair}
+use Rattle.rules.specs.Refusals.{byAnswer}
 use Rattle.rules.specs.States.{isIdle, idle}
 use Rattle.rules.specs.Deliver.{requestsIn}
-use Rattle.rules.specs.Put.{entryOf, putSpec, putAnswer, putState, byAnswer}
+use Rattle.rules.specs.Put.{entryOf, putSpec, putAnswer, putState}
 use Rattle.rules.specs.Step.{dueOf, sendingOf, bytesFor, changed, made as madeStep, stepSpec, afterOf, stepBytes}
 use Rattle.rules.specs.Cancel.{newSpec}
 use Rattle.rules.specs.Runs.{Event, trace, behind, firstPass, requestsOfFrame, requestsOfBody, requests, Call, put, deliver, step, cancel, reset, turned, made, unless, pduIn, seen, emitted}

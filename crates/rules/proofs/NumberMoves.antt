@@ -8,9 +8,10 @@ use lib.Dec.{eqb, ltb}
 use lib.ListN.{length}
 use Rattle.basis.proofs.Pick.{cases}
 use Rattle.rules_pdu.specs.Numbers.{numberAfter}
+use Rattle.rules.specs.Refusals.{byAnswer}
 use Rattle.rules.specs.States.{idle}
 use Rattle.rules.specs.Queues.{anyInvalid, owing, free}
-use Rattle.rules.specs.Put.{started, putAnswer, putState, byAnswer, putSpec}
+use Rattle.rules.specs.Put.{started, putAnswer, putState, putSpec}
 use Rattle.rules.specs.Deliver.{verdictOf, takesNak, nakOf, movedBy, asked, byVerdict, deliverSpec}
 use Rattle.rules.specs.Step.{dueOf, nextLength, afterCancelEof, afterMetadata, afterData, afterEof, afterOf, changed, bytesDue, made as madeStep, stepSpec}
 use Rattle.rules.specs.Cancel.{resetSpec}

@@ -6,13 +6,14 @@ use mathlib.Core.List.{List, [], _++_}
 use Prim.Native.Nat.{ℕ, _-_, _≤_, _<_}
 use native.Mathlib.Omega.{arith}
 use lib.Dec.{ltb}
-use Rattle.basis.specs.Pick.{pick}
+use Rattle.basis.specs.Pick.{pick, not}
 use Rattle.basis.specs.Bytes.{part}
 use Rattle.rules_pdu.specs.Reading.{framedIn, bodyOf}
+use Rattle.rules.specs.Refusals.{Line, firstOf, refused, accepted, byAnswer}
 use Rattle.rules.specs.States.{isIdle, withQueue}
 use Rattle.rules.specs.Queues.{pending, anyInvalid, owing, free, pushAll}
-use Rattle.rules.specs.Put.{putAnswer, putState, byAnswer, putSpec}
-use Rattle.rules.specs.Deliver.{refused, accepted, sameTransaction, takesNak, nakOf, verdictOf, asked, byVerdict, heard, byBody, byFrame, deliverSpec}
+use Rattle.rules.specs.Put.{putAnswer, putState, putSpec}
+use Rattle.rules.specs.Deliver.{sameTransaction, takesNak, nakOf, verdictOf, asked, byVerdict, heard, byBody, byFrame, deliverSpec}
 use Rattle.rules.specs.Cancel.{mayCancel, userCancelled, cancelSpec}
 use Rattle.rules.specs.Tiles.{answers}
 use Rattle.rules.specs.Runs.{put, cancel, Event, turned, began, ended, after, unless, seen, requestsOfBody, requestsOfFrame, requests}
@@ -40,10 +41,15 @@ use Rattle.rules.proofs.Pending.{Orderly, answers-within, all-answers, 
 
 -- ---- put
 
--- a test that passed
-pub passed : (b : Bool) (x : Answer) (r : Refusal) → pick b x (Refused r) ≡ Accepted → (b ≡ true) × (x ≡ Accepted)
-passed true x r e = (refl, e)
-passed false x r e = absurd (let z : _≡_ {A = ℕ} 0 1 = cc in omega arith)
+-- an accepted call: the first test is false, and so are the others
+pub passed : (b : Bool) (x : Answer) (r : Refusal) → pick b (Refused r) x ≡ Accepted → (b ≡ false) × (x ≡ Accepted)
+passed true x r e = absurd (let z : _≡_ {A = ℕ} 0 1 = cc in omega arith)
+passed false x r e = (refl, e)
+
+-- .. that denies another
+pub passed-not : (b : Bool) (x : Answer) (r : Refusal) → pick (not b) (Refused r) x ≡ Accepted → (b ≡ true) × (x ≡ Accepted)
+passed-not true x r e = (refl, e)
+passed-not false x r e = absurd (let z : _≡_ {A = ℕ} 0 1 = cc in omega arith)
 
 pub answer-by : (s t : State) (x : Answer) → byAnswer s t x .answer ≡ x
 answer-by s t Accepted = refl
@@ -57,7 +63,7 @@ module _ (s : State) (P : Event → State → Type 0) (stays : P turned s) where
   pub put-by : ((t : State) → isIdle (s .step) ≡ true → P began t)
       → (c : LocalEntityConfig) (q : PutRequest) (a b : List ℕ) (S : ℕ) → P (seen (put c q a b S) s) (after (put c q a b S) s)
   unfolding putSpec putAnswer
-  put-by begins c q a b S = go (putAnswer s c q a b S) (λ e. passed (isIdle (s .step)) _ _ e .0)
+  put-by begins c q a b S = go (putAnswer s c q a b S) (λ e. passed-not (isIdle (s .step)) _ _ e .0)
     where
       go : (x : Answer) → (x ≡ Accepted → isIdle (s .step) ≡ true) → let r = byAnswer s (putState s c q a b S) x in P (unless (r .answer) began) (r .state)
       go Accepted i = begins (putState s c q a b S) (i refl)

@@ -14,10 +14,11 @@ use borrow.Author.Tests.{ltb-true, ltb-false}
 use Rattle.basis.specs.Pick.{pick}
 use Rattle.basis.proofs.Pick.{cases}
 use Rattle.rules_pdu.specs.Decoding.{decode}
+use Rattle.rules.specs.Refusals.{refused, accepted}
 use Rattle.rules.specs.States.{isIdle, withQueue, emptyQueue, idle}
 use Rattle.rules.specs.Queues.{oldest, served}
 use Rattle.rules.specs.Put.{putSpec}
-use Rattle.rules.specs.Deliver.{refused, accepted, nakOf, verdictOf, byVerdict, movedBy, asked, requestsIn, deliverSpec}
+use Rattle.rules.specs.Deliver.{nakOf, verdictOf, byVerdict, movedBy, asked, requestsIn, deliverSpec}
 use Rattle.rules.specs.Step.{actionFor, faultDue, ackExpired, checkExpired, eofOwed, dueAt, dueOf, sendingOf, repairOf, nextLength, afterCancelEof, afterMetadata, afterData, afterEof, afterOf, changed, made as madeStep, stepSpec}
 use Rattle.rules.specs.Tiles.{answers}
 use Rattle.rules.specs.Runs.{Call, put, deliver, step, cancel, reset, Event, turned, began, took, made, ended, after, unless, seen, trace, behind, LendsIn, Lends, steps, NoPut, NoEnd, StepsOnly, requests, emitted}

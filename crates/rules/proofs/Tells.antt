@@ -90,6 +90,11 @@ pub fails-yes : {b : Bool} {P : Type 0} → Tells b P → Fails (pick b false tr
 fails-yes {b = true} p = record { yes = λ e. p .yes refl; no = λ e. absurd (false≢true e) }
 fails-yes {b = false} p = record { yes = λ e. absurd (true≢false e); no = λ e. p .no refl }
 
+-- a failing test denied
+pub tells-denied : {b : Bool} {P : Type 0} → Fails b P → Tells (pick b false true) P
+tells-denied {b = true} p = record { yes = λ e. absurd (false≢true e); no = λ e. p .no refl }
+tells-denied {b = false} p = record { yes = λ e. p .yes refl; no = λ e. absurd (true≢false e) }
+
 pub ruleset tests = (tells-eqb, tells-ltb, fails-leb, tells-flag, fails-flag, fails-not, tells-both, tells-either, tells-but, tells-not, fails-either, fails-first, fails-where, fails-yes)
 
 -- a test read as an equivalence

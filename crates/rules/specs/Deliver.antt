@@ -10,6 +10,7 @@ use Rattle.basis.specs.Pick.{pick}
 use Rattle.basis.specs.Bytes.{part}
 use Rattle.rules_pdu.specs.Numbers.{F}
 use Rattle.rules_pdu.specs.Reading.{framedIn, bodyOf, requestsFrom}
+use Rattle.rules.specs.Refusals.{refused, accepted}
 use Rattle.rules.specs.States.{isIdle, toStep, withQueue, withMarks, settled, told, emptyQueue}
 use Rattle.rules.specs.Queues.{anyInvalid, owing, free, pushAll}
 use Rattle.types.specs.declared.Head.{Head}
@@ -69,12 +70,6 @@ unfoldable pub verdictOf : TransactionStep → Meaning → Verdict
 verdictOf k m = column m (getD table (stepNo k) (row Refuse Refuse Refuse Refuse))
 
 -- ---- what a delivery does
-
-abbrev pub refused : State → Refusal → Done
-refused s r = record { answer = Refused r; state = s }
-
-abbrev pub accepted : State → Done
-accepted s = record { answer = Accepted; state = s }
 
 -- 23 OtherTransaction: "not Idle, and an id or number differs in value"
 unfoldable pub sameTransaction : Head → Head → Bool

@@ -6,8 +6,9 @@ use mathlib.Core.List.{List}
 use Prim.Native.Nat.{ℕ}
 use Rattle.basis.specs.Pick.{pick}
 use Rattle.basis.proofs.Pick.{pick-t, pick-f}
+use Rattle.rules.specs.Refusals.{refused}
 use Rattle.rules.specs.States.{isIdle}
-use Rattle.rules.specs.Deliver.{sameTransaction, verdictOf, byVerdict, heard, refused}
+use Rattle.rules.specs.Deliver.{sameTransaction, verdictOf, byVerdict, heard}
 use Rattle.types.specs.declared.Done.{Done}
 use Rattle.types.specs.declared.Frame.{Frame}
 use Rattle.types.specs.declared.State.{State}
