@@ -9,7 +9,7 @@ use borrow.Author.Tests.{le-ltb}
 use lib.Dec.{eqb, ltb}
 use lib.ListN.{length, take, replicate, length-append, length-replicate}
 use lib.Seq.{take-append-seam, drop-append-seam}
-use Rattle.basis.specs.Pick.{pick, _and_, not}
+use Rattle.basis.specs.Pick.{_and_, not}
 use Rattle.rules_leaves.specs.Utf8.{isUtf8}
 use Rattle.rules_pdu.specs.Layout.{metadata, encode, pduLength}
 use Rattle.rules.specs.States.{isIdle}
@@ -21,8 +21,7 @@ use Rattle.types.specs.declared.RemoteEntityConfig.{RemoteEntityConfig}
 use Rattle.types.specs.declared.LocalEntityConfig.{LocalEntityConfig}
 use Rattle.types.specs.declared.PutRequest.{PutRequest}
 use Rattle.types.specs.declared.State.{State}
-use Rattle.types.specs.declared.Refusal.{Refusal}
-use Rattle.types.specs.declared.Answer.the-variants.{Accepted, Refused}
+use Rattle.types.specs.declared.Answer.the-variants.{Accepted}
 use Rattle.rules.proofs.Tells.{both}
 use Rattle.rules.proofs.Outcomes.{passed, passed-not}
 use Rattle.rules.proofs.Begun.{head-fit, entry-good, name-lengths, packet-holds, segment-range}

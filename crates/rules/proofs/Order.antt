@@ -1,7 +1,7 @@
 -- From a cascade of tests to a table of refusals: what gives the first number whose condition holds gives each number exactly when.
 -- Assumes nothing.
 use mathlib.Core.Path.{_≡_, refl, sym, subst, _∙_}
-use mathlib.Core.Logic.{_⊎_, inl, inr, ⊎-elim}
+use mathlib.Core.Logic.{_⊎_, inl, inr}
 use mathlib.Core.Bool.{Bool, true, false}
 use mathlib.Core.List.{List, [], _∷_}
 use Prim.Native.Nat.{ℕ}
@@ -13,7 +13,7 @@ use Rattle.rules.specs.Exactly.{Rule, _when_, NoneOf, After, Exactly}
 use Rattle.types.specs.declared.Refusal.{Refusal}
 use Rattle.types.specs.declared.Answer.{Answer}
 use Rattle.types.specs.declared.Answer.the-variants.{Refused}
-use Rattle.rules.proofs.Tells.{Tells, Fails, both, but}
+use Rattle.rules.proofs.Tells.{Tells, both, but}
 
 -- the number of the first line whose condition holds, 0 if none does
 abbrev FirstIs : List Rule → ℕ → Type 0
@@ -45,12 +45,6 @@ pub hits : {A : Type 0} (f : A → ℕ) (b : Bool) (x y : A) (k : ℕ) (P : Type
 hits f true x y k P rs t e r = record { is = inl (t .yes refl, e) }
 hits f false x y k P rs t e r = record { is = inr (t .no refl, r refl .is) }
 
--- the test of its contrary fails
-pub fails : {A : Type 0} (f : A → ℕ) (b : Bool) (x y : A) (k : ℕ) (P : Type 0) (rs : List Rule)
-    → Fails b P → f y ≡ k → (b ≡ true → First rs (f x)) → First ((k when P) ∷ rs) (f (pick b x y))
-fails f true x y k P rs t e r = record { is = inr (t .no refl, r refl .is) }
-fails f false x y k P rs t e r = record { is = inl (t .yes refl, e) }
-
 -- a line of a table of tests beside one of a table of conditions
 pub line : (r : Refusal) (b : Bool) (rest : Answer) (P : Type 0) (rs : List Rule)
     → Tells b P → (b ≡ false → First rs (answerNo rest)) → First ((refusalNo r when P) ∷ rs) (answerNo (pick b (Refused r) rest))
@@ -67,24 +61,6 @@ here k P rs p = record { is = inl (p, refl) }
 
 pub there : (k : ℕ) (P : Type 0) (rs : List Rule) (n : ℕ) → ¬ P → First rs n → First ((k when P) ∷ rs) n
 there k P rs n p r = record { is = inr (p, r .is) }
-
--- one of two conditions with the same number
-pub either : {A : Type 0} (f : A → ℕ) (b : Bool) (x y : A) (k : ℕ) (P Q : Type 0) (rs : List Rule)
-    → Tells b P → f x ≡ k → First ((k when Q) ∷ rs) (f y) → First ((k when (P ⊎ Q)) ∷ rs) (f (pick b x y))
-either f true x y k P Q rs t e r = record { is = inl (inl (t .yes refl), e) }
-either f false x y k P Q rs t e r = record { is = go (r .is) }
-  where
-    go : FirstIs ((k when Q) ∷ rs) (f y) → FirstIs ((k when (P ⊎ Q)) ∷ rs) (f y)
-    go (inl q) = inl (inr (q .0), q .1)
-    go (inr q) = inr (⊎-elim (t .no refl) (q .0), q .1)
-
--- conditions said in another way
-pub anew : (k : ℕ) (P Q : Type 0) (rs ts : List Rule) (n : ℕ) → (P → Q) → (Q → P) → (First rs n → First ts n) → First ((k when P) ∷ rs) n → First ((k when Q) ∷ ts) n
-anew k P Q rs ts n p q r f = record { is = go (f .is) }
-  where
-    go : FirstIs ((k when P) ∷ rs) n → FirstIs ((k when Q) ∷ ts) n
-    go (inl h) = inl (p (h .0), h .1)
-    go (inr h) = inr (λ x. h .0 (q x), r (record { is = h .1 }) .is)
 
 -- ---- from the first to exactly
 

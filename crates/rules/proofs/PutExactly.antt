@@ -14,8 +14,6 @@ use Rattle.basis.specs.Pick.{pick}
 use Rattle.rules_pdu.specs.Numbers.{goodWidth, fits}
 use Rattle.rules_leaves.specs.Utf8.{isUtf8, Utf8}
 use Rattle.rules_pdu.specs.Layout.{metadata, encode, pduLength}
-use Rattle.rules.specs.Refusals.{answerNo}
-use Rattle.rules.specs.States.{isIdle}
 use Rattle.rules.specs.Put.{idsFit, findIn, entries, isFound, noRemote, entryOf, knownType, knownAction, allKnown, goodEntry, goodConfig, goodLength, goodLengths, headOf, tooLong, putAnswer, putState, putSpec}
 use Rattle.rules.specs.Exactly.{Width, Within, OneHas, lookedAt, KnownType, BadEntry, OneUnknown, BadLength, putRules, PutExactly, FoundExactly, FirstEntry}
 use Rattle.types.specs.declared.EntityId.{EntityId}
@@ -25,7 +23,7 @@ use Rattle.types.specs.declared.RemoteEntityConfig.{RemoteEntityConfig}
 use Rattle.types.specs.declared.LocalEntityConfig.{LocalEntityConfig}
 use Rattle.types.specs.declared.Refusal.the-variants.{AlreadyBusy, BadIdWidth, NoRemoteCfgFound, BadConfig, BadNameLength, SourceFileNotValidUtf8, DestFileNotValidUtf8, PacketLimit}
 use Rattle.rules_pdu.proofs.Round.{widths-exactly, length-encode}
-use Rattle.rules.proofs.Tells.{Tells, Fails, tests, tells-eqb, tells-ltb, fails-leb, fails-not, tells-not, tells-denied, fails-either, iff-tells, fails-iff, tells-idle}
+use Rattle.rules.proofs.Tells.{Tells, Fails, tests, tells-eqb, tells-ltb, fails-leb, fails-not, never, tells-not, tells-denied, fails-either, iff-tells, fails-iff, tells-idle}
 use Rattle.rules.proofs.Order.{line, passes, exactly}
 use Rattle.rules.proofs.Outcomes.{answer-by}
 use Rattle.rules_leaves.proofs.Utf8.{utf8-exactly}
@@ -45,7 +43,7 @@ fails-ids a b n = search (tests, tells-fits) depth 8
 -- a search that stops before the end has found
 tells-findIn : (es : List RemoteEntityConfig) (v : ℕ) → Tells (ltb (findIn es v) (length es)) (OneHas v es)
 unfolding findIn
-tells-findIn [] v = record { yes = λ e. absurd (false≢true e); no = λ e h. h }
+tells-findIn [] v = never
 tells-findIn (e ∷ es) v = go (tells-findIn es v) (eqb (e .id .1) v) (tells-eqb (e .id .1) v)
   where
     go : Tells (ltb (findIn es v) (length es)) (OneHas v es) → (b : Bool) → Tells b (e .id .1 ≡ v)

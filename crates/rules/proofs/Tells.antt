@@ -10,8 +10,7 @@ use borrow.Author.Tests.{ltb-true, ltb-false, leb-true, leb-false, eqb-true, eqb
 use lib.Dec.{eqb, leb, ltb}
 use lib.ListN.{getD}
 use Rattle.basis.specs.Pick.{pick}
-use Rattle.rules.specs.States.{isIdle}
-use Rattle.rules.specs.Deliver.{stepNo}
+use Rattle.rules.specs.States.{isIdle, stepNo}
 use Rattle.types.specs.declared.TransactionStep.{TransactionStep}
 use Rattle.types.specs.declared.TransactionStep.the-variants.{Idle, SendingMetadata, SendingFileData, SendingEof, WaitingForEofAck, WaitingForFinished, Closing}
 
@@ -44,8 +43,14 @@ pub fails-flag : (b : Bool) → Fails b (b ≡ false)
 fails-flag true = record { yes = λ e. e; no = λ e f. true≢false f }
 fails-flag false = record { yes = λ e. refl; no = λ e f. false≢true e }
 
+pub never : Tells false ⊥
+never = record { yes = λ e. absurd (false≢true e); no = λ e h. h }
+
 pub fails-not : {b : Bool} {P : Type 0} → Tells b P → Fails b (¬ P)
 fails-not t = record { yes = t .no; no = λ e n. n (t .yes e) }
+
+pub tells-map : {b : Bool} {P Q : Type 0} → (P → Q) → (Q → P) → Tells b P → Tells b Q
+tells-map f g t = record { yes = λ e. f (t .yes e); no = λ e h. t .no e (g h) }
 
 pub fails-map : {b : Bool} {P Q : Type 0} → (P → Q) → (Q → P) → Fails b P → Fails b Q
 fails-map f g t = record { yes = λ e. f (t .yes e); no = λ e h. t .no e (g h) }
