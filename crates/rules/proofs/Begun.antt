@@ -12,7 +12,7 @@ use lib.ListN.{length, take, replicate}
 use lib.Pow.{pow-mono}
 use lib.Seq.{take-append-seam}
 use borrow.Author.Tests.{eqb-true, eqb-false, leb-true, ltb-true, ltb-false, le-ltb}
-use Rattle.basis.specs.Pick.{pick}
+use Rattle.basis.specs.Pick.{pick, _and_, not}
 use Rattle.basis.specs.Bytes.{Bytes}
 use Rattle.basis.proofs.Pick.{cases}
 use Rattle.rules_pdu.specs.Numbers.{goodWidth, fits, larger, H, F, C, segmentLength}
@@ -21,7 +21,7 @@ use Rattle.rules_pdu.specs.PduLaws.{Fit}
 use Rattle.rules.specs.States.{isIdle}
 use Rattle.rules.specs.Queues.{pending}
 use Rattle.rules_leaves.specs.Utf8.{isUtf8}
-use Rattle.rules.specs.Put.{idsFit, isFound, entryOf, knownType, goodEntry, goodConfig, allKnown, goodLength, goodLengths, headOf, tooLong, padded, paddedLength, started, entryAnswer, putAnswer, putState, putSpec}
+use Rattle.rules.specs.Put.{idsFit, isFound, entryOf, knownType, goodEntry, goodConfig, allKnown, goodLength, goodLengths, headOf, tooLong, padded, paddedLength, started, putAnswer, putState, putSpec}
 use Rattle.rules.specs.Demand.{Transfer, transferOf}
 use Rattle.types.specs.declared.TransactionSeqNum.{TransactionSeqNum}
 use Rattle.types.specs.declared.Head.{Head}
@@ -30,27 +30,21 @@ use Rattle.types.specs.declared.LocalEntityConfig.{LocalEntityConfig}
 use Rattle.types.specs.declared.PutRequest.{PutRequest}
 use Rattle.types.specs.declared.State.{State}
 use Rattle.types.specs.declared.TransactionStep.the-variants.{SendingMetadata}
-use Rattle.types.specs.declared.Refusal.{Refusal}
-use Rattle.types.specs.declared.Answer.{Answer}
-use Rattle.types.specs.declared.Answer.the-variants.{Accepted, Refused}
+use Rattle.types.specs.declared.Answer.the-variants.{Accepted}
 use Rattle.rules_leaves.proofs.Sums.{sum-lt}
 use Rattle.rules_pdu.proofs.Round.{size-fits}
 use Rattle.rules.proofs.Pending.{orderly-empty}
-use Rattle.rules.proofs.Outcomes.{differ, passed, answer-by, state-by}
+use Rattle.rules.proofs.Outcomes.{differ, passed, answer-by, state-by, passed-not}
 use Rattle.rules.proofs.Hold.{Inv}
 use Rattle.rules.proofs.Stream.{Carries}
 
 -- ---- the conditions that passed
 
-passed-not : (b : Bool) (x : Answer) (r : Refusal) → pick b (Refused r) x ≡ Accepted → b ≡ false
-passed-not true x r e = differ cc
-passed-not false x r e = refl
-
 both : (a b : Bool) → pick a b false ≡ true → (a ≡ true) × (b ≡ true)
 both true b e = (refl, e)
 both false b e = absurd (false≢true e)
 
-neither : (a b : Bool) → pick a false b ≡ true → (a ≡ false) × (b ≡ true)
+neither : (a b : Bool) → not a and b ≡ true → (a ≡ false) × (b ≡ true)
 neither true b e = absurd (false≢true e)
 neither false b e = (refl, e)
 
@@ -63,24 +57,24 @@ pub record Passed (h : State) (c : LocalEntityConfig) (q : PutRequest) (source d
 
 pub put-passed : (h : State) (c : LocalEntityConfig) (q : PutRequest) (source destination : List ℕ) (S : ℕ)
     → putSpec h c q source destination S .answer ≡ Accepted → Passed h c q source destination S
-unfolding putSpec putAnswer entryAnswer
+unfolding putSpec putAnswer
 put-passed h c q source destination S a =
     let e = entryOf c (q .destination .1) in
     let d = headOf c e q (h .number) S in
     let x = sym (answer-by h (putState h c q source destination S) (putAnswer h c q source destination S)) ∙ a in
-    let p1 = passed (isIdle (h .step)) _ _ x in
-    let p2 = passed (idsFit (c .id) (q .destination) (h .number)) _ _ (p1 .1) in
-    let p3 = passed (isFound c (q .destination .1)) _ _ (p2 .1) in
-    let p4 = passed (goodConfig e (c .actions)) _ _ (p3 .1) in
-    let p5 = passed (goodLengths (length source) (length destination)) _ _ (p4 .1) in
-    let p6 = passed (isUtf8 source) _ _ (p5 .1) in
-    let p7 = passed (isUtf8 destination) _ _ (p6 .1) in
+    let p1 = passed-not (isIdle (h .step)) _ _ x in
+    let p2 = passed-not (idsFit (c .id) (q .destination) (h .number)) _ _ (p1 .1) in
+    let p3 = passed-not (isFound c (q .destination .1)) _ _ (p2 .1) in
+    let p4 = passed-not (goodConfig e (c .actions)) _ _ (p3 .1) in
+    let p5 = passed-not (goodLengths (length source) (length destination)) _ _ (p4 .1) in
+    let p6 = passed-not (isUtf8 source) _ _ (p5 .1) in
+    let p7 = passed-not (isUtf8 destination) _ _ (p6 .1) in
     record {
       state-is = state-by h (putState h c q source destination S) (putAnswer h c q source destination S) x;
       ids = p2 .0;
       config = p4 .0;
       lengths = p5 .0;
-      short = passed-not (tooLong d e source destination) _ _ (p7 .1);
+      short = passed (tooLong d e source destination) _ _ (p7 .1) .0;
     }
 
 -- ---- 2: the header fits
@@ -109,7 +103,7 @@ pub head-fit : (c : LocalEntityConfig) (e : RemoteEntityConfig) (q : PutRequest)
     → idsFit (c .id) (q .destination) n ≡ true → Fit (headOf c e q n S)
 unfolding idsFit
 head-fit c e q n S i =
-    let p = both (fits (c .id .0) (c .id .1)) (pick (fits (q .destination .0) (q .destination .1)) (fits (n .0) (n .1)) false) i in
+    let p = both (fits (c .id .0) (c .id .1)) (fits (q .destination .0) (q .destination .1) and fits (n .0) (n .1)) i in
     let r = both (fits (q .destination .0) (q .destination .1)) (fits (n .0) (n .1)) (p .1) in
     let a = fits-both (c .id .0) (c .id .1) (p .0) in
     let b = fits-both (q .destination .0) (q .destination .1) (r .0) in
@@ -142,8 +136,8 @@ pub record Entry (e : RemoteEntityConfig) : Type 0 where
 pub entry-good : (e : RemoteEntityConfig) (actions : List ℕ) → goodConfig e actions ≡ true → Entry e
 unfolding goodConfig goodEntry
 entry-good e actions g =
-    let p = both (pick (ltb 4096 (e .maxpacket)) false (pick (eqb (e .maxsegment) 0) false (knownType (e .checksum)))) (allKnown actions) g in
-    let r = neither (ltb 4096 (e .maxpacket)) (pick (eqb (e .maxsegment) 0) false (knownType (e .checksum))) (p .0) in
+    let p = both (goodEntry e) (allKnown actions) g in
+    let r = neither (ltb 4096 (e .maxpacket)) (not (eqb (e .maxsegment) 0) and knownType (e .checksum)) (p .0) in
     let k = neither (eqb (e .maxsegment) 0) (knownType (e .checksum)) (r .1) in
     let n = eqb-false (e .maxsegment) 0 (k .0) in
     record { packet = ltb-false 4096 (e .maxpacket) (r .0); segment = omega arith; type = known-small (e .checksum) (k .1) }

@@ -1,7 +1,7 @@
 -- Deliver's refusals exactly when document 01 says so. A body is sorted first: no PDU by the layouts, one that can't be processed, or one with a
--- meaning, each with the line's condition; the table of steps and a NAK's cascade follow.
+-- meaning, each with the line's condition; each of the other tests tells its line's condition.
 -- Assumes nothing.
-use mathlib.Core.Path.{_≡_, refl, sym, ap, _∙_}
+use mathlib.Core.Path.{_≡_, refl, sym, _∙_}
 use mathlib.Core.Logic.{_⊎_, inl, inr, ⊎-elim}
 use mathlib.Core.Bool.{Bool, true, false, true≢false, false≢true}
 use mathlib.Core.List.{List, [], _∷_}
@@ -17,30 +17,25 @@ use Rattle.rules_pdu.specs.Numbers.{F}
 use Rattle.rules_leaves.specs.Checksum.{crc16}
 use Rattle.rules_pdu.specs.Reading.{endIn, headIn, crcAgrees, crcGood, wellFramed, frameIn, framedIn, bodyIn, fileDataIn, toSenderIn, largeIn, reserved, finishedParams, finishedIn, ackIn, requestCount, nakIn, keepAliveIn, directiveIn, directed, bodyOf}
 use Rattle.rules.specs.Refusals.{answerNo}
-use Rattle.rules.specs.States.{isIdle}
 use Rattle.rules.specs.Queues.{invalid, anyInvalid, owing, free}
-use Rattle.rules.specs.Deliver.{stepNo, verdictOf, sameTransaction, takesNak, nakOf, requestsIn, byVerdict, refused, heard, byBody, byFrame, deliverSpec}
-use Rattle.rules.specs.Exactly.{Rule, _when_, NoFrame, Reserved, BadFinished, BadAck, BadNak, Unread, BadBody, CantBody, NoNak, Unexpected, Differs, OneInvalid, pairsIn, deliverRules, DeliverExactly}
+use Rattle.rules.specs.Deliver.{saidIn, asked, requestsIn, sameTransaction, unexpected, deliverAnswer, deliverState, deliverSpec}
+use Rattle.rules.specs.Exactly.{NoFrame, Reserved, BadFinished, BadAck, BadNak, Unread, BadBody, CantBody, Unexpected, Differs, OneInvalid, deliverRules, DeliverExactly}
 use Rattle.types.specs.declared.Head.{Head}
 use Rattle.types.specs.declared.Frame.{Frame}
-use Rattle.types.specs.declared.Framed.the-variants.{Malformed as NoFrame′, Whole}
 use Rattle.types.specs.declared.Body.{Body}
 use Rattle.types.specs.declared.Body.the-variants.{Malformed, CantProcess, Means}
 use Rattle.types.specs.declared.Meaning.{Meaning}
 use Rattle.types.specs.declared.Meaning.the-variants.{Finished, AckOfEof, Nak, KeepAlive}
 use Rattle.types.specs.declared.SegmentRequest.{SegmentRequest}
-use Rattle.types.specs.declared.FinishedParams.{FinishedParams}
 use Rattle.types.specs.declared.State.{State}
 use Rattle.types.specs.declared.TransactionStep.the-variants.{Idle, SendingMetadata, WaitingForEofAck, WaitingForFinished, Closing}
-use Rattle.types.specs.declared.Verdict.{Verdict}
-use Rattle.types.specs.declared.Verdict.the-variants.{Move, Refuse, NoEffect}
-use Rattle.types.specs.declared.Refusal.the-variants.{OtherTransaction}
-use Rattle.types.specs.declared.Done.{Done}
+use Rattle.types.specs.declared.Refusal.the-variants.{UnexpectedPdu, OtherTransaction, InvalidNakPdu, RetransmitFull}
 use Rattle.rules_pdu.proofs.Heard.{tlvs-exactly}
 use Rattle.rules_pdu.proofs.ExactBody.{reserved-exactly}
-use Rattle.rules.proofs.Tells.{Tells, Fails, tests, tells-eqb, tells-ltb, fails-not, fails-map, tells-either, iff-tells, tells-idle, tells-step}
-use Rattle.rules.proofs.Order.{First, hits, fails, passes, here, there, either, anew, exactly}
-use Rattle.rules.proofs.Table.{verdict-nak, verdict-ack, verdict-finished, verdict-keep}
+use Rattle.rules.proofs.Tells.{Tells, Fails, tests, tells-eqb, tells-ltb, tells-flag, never, fails-not, tells-map, tells-both, tells-either, tells-not, tells-denied, iff-tells, tells-idle, tells-step}
+use Rattle.rules.proofs.Order.{First, line, passes, here, there, exactly}
+use Rattle.rules.proofs.Outcomes.{answer-by}
+use Rattle.rules.proofs.Table.{verdict-keep, refuses-nak, refuses-ack, refuses-finished}
 use Rattle.rules.proofs.PutExactly.{tells-width}
 
 -- ---- 20: the frame
@@ -216,7 +211,40 @@ sorted f b = go (f .filedata)
         cases (Sorted false (f .tosender) (f .head .large) b) (eqb (length b) 0) _ _ (λ e. bad (refl, inl (eqb-true (length b) 0 e)))
         (λ e. directed-sorted (f .tosender) (f .head .large) b _ (directive (f .head .large) b (eqb-false (length b) 0 e)))
 
--- ---- 22, 24, 25: a NAK
+-- ---- 23
+
+fails-same : (a b : Head) → Fails (sameTransaction a b) (Differs a b)
+unfolding sameTransaction
+fails-same a b = search tests depth 8
+
+-- ---- 22: the table of steps
+
+module _ (s : State) (large : Bool) (b : List ℕ) where
+  tells-unexpected : (m : Meaning) → Kind large b m → Tells (unexpected s m) (Unexpected s (byte b 0))
+  unfolding unexpected
+  tells-unexpected (Nak n) k =
+      rw (refuses-nak (s .step) n)
+      (tells-map
+      (λ x. inl (k .0, ⊎-elim (⊎-elim inl (⊎-elim (λ y. inr (inl y)) (λ y. inr (inr (inl y))))) (λ y. inr (inr (inr y))) x))
+      (⊎-elim (λ x. ⊎-elim (λ y. inl (inl y)) (⊎-elim (λ y. inl (inr (inl y))) (⊎-elim (λ y. inl (inr (inr y))) inr)) (x .1))
+      (⊎-elim (λ x. absurd (omega (arith, k .0, x .0))) (λ x. absurd (omega (arith, k .0, x .0)))))
+      (tells-either (tells-either (tells-step (s .step) Idle) (tells-either (tells-step (s .step) SendingMetadata) (tells-step (s .step) Closing)))
+      (tells-either (tells-flag (s .fixed .head .unacknowledged)) (tells-flag (s .marks .cancelled)))))
+  tells-unexpected AckOfEof k =
+      rw (refuses-ack (s .step))
+      (tells-map (⊎-elim (λ x. inr (inl (k, x))) absurd)
+      (⊎-elim (λ x. absurd (omega (arith, k, x .0))) (⊎-elim (λ x. inl (x .1)) (λ x. absurd (omega (arith, k, x .0)))))
+      (tells-either (tells-not (tells-step (s .step) WaitingForEofAck)) never))
+  tells-unexpected (Finished p) k =
+      rw (refuses-finished (s .step) p)
+      (tells-map (⊎-elim (λ x. inr (inr (k, x))) absurd)
+      (⊎-elim (λ x. absurd (omega (arith, k, x .0))) (⊎-elim (λ x. absurd (omega (arith, k, x .0))) (λ x. inl (x .1))))
+      (tells-either (tells-both (tells-not (tells-step (s .step) Idle)) (tells-not (tells-step (s .step) WaitingForFinished))) never))
+  tells-unexpected (KeepAlive p) k =
+      rw (verdict-keep (s .step) p)
+      (tells-map absurd (⊎-elim (λ x. absurd (omega (arith, k, x .0))) (⊎-elim (λ x. absurd (omega (arith, k, x .0))) (λ x. absurd (omega (arith, k, x .0))))) never)
+
+-- ---- 24, 25: a NAK's requests
 
 tells-invalid : (progress : ℕ) (r : SegmentRequest) → Tells (invalid progress r) ((r .end < r .start) ⊎ (progress < r .end))
 unfolding invalid
@@ -224,122 +252,30 @@ tells-invalid progress r = search tests
 
 tells-any : (progress : ℕ) (rs : List SegmentRequest) → Tells (anyInvalid progress rs) (OneInvalid progress rs)
 unfolding anyInvalid
-tells-any progress [] = record { yes = λ e. absurd (false≢true e); no = λ e h. h }
+tells-any progress [] = never
 tells-any progress (r ∷ rs) = tells-either (tells-invalid progress r) (tells-any progress rs)
 
-fails-takes : (s : State) → Fails (takesNak s) ((s .fixed .head .unacknowledged ≡ true) ⊎ (s .marks .cancelled ≡ true))
-unfolding takesNak
-fails-takes s = search tests
-
-tells-full : (s : State) (n : ℕ) → Tells (ltb (free (s .queue)) n) (64 - s .queue .count < n)
+tells-full : (s : State) (rs : List SegmentRequest) → Tells (ltb (free (s .queue)) (owing rs)) (64 - s .queue .count < owing rs)
 unfolding free
-tells-full s n = tells-ltb _ _
+tells-full s rs = tells-ltb _ _
 
-abbrev number : Done → ℕ
-number d = answerNo (d .answer)
-
-nak-first : (s : State) (rs : List SegmentRequest)
-    → First
-    ((22 when (s .fixed .head .unacknowledged ≡ true) ⊎ (s .marks .cancelled ≡ true))
-    ∷ (24 when OneInvalid (s .file .progress) rs)
-    ∷ (25 when 64 - s .queue .count < owing rs)
-    ∷ [])
-    (number (nakOf s rs))
-unfolding nakOf
-nak-first s rs =
-    fails number (takesNak s) _ _ 22 _ _ (fails-takes s) refl
-    (λ _. hits number (anyInvalid (s .file .progress) rs) _ _ 24 _ _ (tells-any (s .file .progress) rs) refl
-    (λ _. hits number (ltb (free (s .queue)) (owing rs)) _ _ 25 _ _ (tells-full s (owing rs)) refl (λ _. passes)))
-
--- ---- 22: the table of steps
-
--- the last three lines, over the code and the requests
-abbrev behind : State → ℕ → List SegmentRequest → List Rule
-behind s code rs =
-    (22 when Unexpected s code)
-    ∷ (24 when (code ≡ 8) × OneInvalid (s .file .progress) rs)
-    ∷ (25 when (code ≡ 8) × (64 - s .queue .count < owing rs))
-    ∷ []
-
-module _ (s : State) (bytes : List ℕ) (f : Frame) (code : ℕ) (rs : List SegmentRequest) where
-  nak-behind : (n : ℕ) → code ≡ 8 → requestsIn bytes f n ≡ rs → First (behind s code rs) (number (byVerdict s bytes f (Nak n) (verdictOf (s .step) (Nak n))))
-  nak-behind n e q =
-      let no : Verdict → ℕ = λ v. number (byVerdict s bytes f (Nak n) v) in
-      rw (verdict-nak (s .step) n)
-      (anew 22 (NoNak s) _ _ _ _ (λ p. inl (e, p)) (⊎-elim (λ x. x .1) (⊎-elim (λ x. absurd (omega (arith, e, x .0))) (λ x. absurd (omega (arith, e, x .0)))))
-      (anew 24 (OneInvalid (s .file .progress) rs) _ _ _ _ (λ p. (e, p)) (λ x. x .1)
-      (anew 25 (64 - s .queue .count < owing rs) _ _ _ _ (λ p. (e, p)) (λ x. x .1) (λ x. x)))
-      (either no (eqb (stepNo (s .step)) 0) _ _ 22 _ _ _ (tells-step (s .step) Idle) refl
-      (either no (eqb (stepNo (s .step)) 1) _ _ 22 _ _ _ (tells-step (s .step) SendingMetadata) refl
-      (either no (eqb (stepNo (s .step)) 6) _ _ 22 _ _ _ (tells-step (s .step) Closing) refl
-      (rw q (nak-first s rs))))))
-
-  -- what is no NAK is neither 24 nor 25
-  not-nak : ¬ (code ≡ 8)
-      → First ((24 when (code ≡ 8) × OneInvalid (s .file .progress) rs) ∷ (25 when (code ≡ 8) × (64 - s .queue .count < owing rs)) ∷ []) 0
-  not-nak n = there 24 _ _ 0 (λ x. n (x .0)) (there 25 _ _ 0 (λ x. n (x .0)) passes)
-
-  ack-behind : code ≡ 6 → First (behind s code rs) (number (byVerdict s bytes f AckOfEof (verdictOf (s .step) AckOfEof)))
-  ack-behind e =
-      rw (verdict-ack (s .step))
-      (fails (λ v. number (byVerdict s bytes f AckOfEof v)) (eqb (stepNo (s .step)) 4) _ _ 22 _ _
-      (fails-map (λ p. inr (inl (e, p))) (⊎-elim (λ x. absurd (omega (arith, e, x .0))) (⊎-elim (λ x. x .1) (λ x. absurd (omega (arith, e, x .0)))))
-      (fails-not (tells-step (s .step) WaitingForEofAck)))
-      refl (λ _. not-nak (omega arith)))
-
-  finished-behind : (p : FinishedParams) → code ≡ 5 → First (behind s code rs) (number (byVerdict s bytes f (Finished p) (verdictOf (s .step) (Finished p))))
-  finished-behind p e =
-      rw (verdict-finished (s .step) p)
-      (go (eqb (stepNo (s .step)) 0) (tells-step (s .step) Idle) (eqb (stepNo (s .step)) 5) (tells-step (s .step) WaitingForFinished))
-    where
-      only : ¬ ((¬ (s .step ≡ Idle)) × (¬ (s .step ≡ WaitingForFinished))) → ¬ Unexpected s code
-      only n = ⊎-elim (λ x. absurd (omega (arith, e, x .0))) (⊎-elim (λ x. absurd (omega (arith, e, x .0))) (λ x. n (x .1)))
-
-      go : (b : Bool) → Tells b (s .step ≡ Idle) → (c : Bool) → Tells c (s .step ≡ WaitingForFinished)
-          → First (behind s code rs) (number (byVerdict s bytes f (Finished p) (pick b NoEffect (pick c Move Refuse))))
-      go true t c u = there 22 _ _ 0 (only (λ n. n .0 (t .yes refl))) (not-nak (omega arith))
-      go false t true u = there 22 _ _ 0 (only (λ n. n .1 (u .yes refl))) (not-nak (omega arith))
-      go false t false u = here 22 _ _ (inr (inr (e, (t .no refl, u .no refl))))
-
-  keep-behind : (p : ℕ) → code ≡ 12 → First (behind s code rs) (number (byVerdict s bytes f (KeepAlive p) (verdictOf (s .step) (KeepAlive p))))
-  keep-behind p e =
-      rw (verdict-keep (s .step) p)
-      (there 22 _ _ 0 (⊎-elim (λ x. absurd (omega (arith, e, x .0))) (⊎-elim (λ x. absurd (omega (arith, e, x .0))) (λ x. absurd (omega (arith, e, x .0)))))
-      (not-nak (omega arith)))
-
-  any-behind : (large : Bool) (b : List ℕ) (m : Meaning) → code ≡ byte b 0 → Kind large b m → rs ≡ requestsIn bytes f (requestCount large (length b))
-      → First (behind s code rs) (number (byVerdict s bytes f m (verdictOf (s .step) m)))
-  any-behind large b (Finished p) c k q = finished-behind p (c ∙ k)
-  any-behind large b AckOfEof c k q = ack-behind (c ∙ k)
-  any-behind large b (Nak n) c k q = nak-behind n (c ∙ k .0) (ap (requestsIn bytes f) (k .1) ∙ sym q)
-  any-behind large b (KeepAlive p) c k q = keep-behind p (c ∙ k)
-
--- ---- 23
-
-fails-same : (a b : Head) → Fails (sameTransaction a b) (Differs a b)
-unfolding sameTransaction
-fails-same a b = search tests depth 8
-
-heard-first : (s : State) (bytes : List ℕ) (f : Frame) (m : Meaning) (rs : List Rule)
-    → First rs (number (byVerdict s bytes f m (verdictOf (s .step) m)))
-    → First ((23 when (¬ (s .step ≡ Idle)) × Differs (s .fixed .head) (f .head)) ∷ rs) (number (heard s bytes f m))
-unfolding heard
-heard-first s bytes f m rs r = go (isIdle (s .step)) (tells-idle (s .step)) (sameTransaction (s .fixed .head) (f .head)) (fails-same (s .fixed .head) (f .head))
-  where
-    on : Done
-    on = byVerdict s bytes f m (verdictOf (s .step) m)
-
-    go : (i : Bool) → Tells i (s .step ≡ Idle) → (d : Bool) → Fails d (Differs (s .fixed .head) (f .head))
-        → First ((23 when (¬ (s .step ≡ Idle)) × Differs (s .fixed .head) (f .head)) ∷ rs) (number (pick i on (pick d on (refused s OtherTransaction))))
-    go true t d u = there 23 _ _ _ (λ x. x .0 (t .yes refl)) r
-    go false t true u = there 23 _ _ _ (λ x. u .no refl (x .1)) r
-    go false t false u = here 23 _ _ (t .no refl, u .yes refl)
+-- a test of requests that holds of none is a test of a NAK's
+of-nak : (bytes : List ℕ) (f : Frame) (large : Bool) (b : List ℕ) (test : List SegmentRequest → Bool) (Q : List SegmentRequest → Type 0)
+    → ((rs : List SegmentRequest) → Tells (test rs) (Q rs)) → ¬ Q [] → (m : Meaning) → Kind large b m
+    → Tells (test (asked bytes f m)) ((byte b 0 ≡ 8) × Q (requestsIn bytes f (requestCount large (length b))))
+of-nak bytes f large b test Q t z (Nak n) k =
+    rw (← (k .1)) (tells-map (λ q. (k .0, q)) (λ x. x .1) (t (requestsIn bytes f n)))
+of-nak bytes f large b test Q t z AckOfEof k = tells-map (λ q. absurd (z q)) (λ x. absurd (omega (arith, k, x .0))) (t [])
+of-nak bytes f large b test Q t z (Finished p) k = tells-map (λ q. absurd (z q)) (λ x. absurd (omega (arith, k, x .0))) (t [])
+of-nak bytes f large b test Q t z (KeepAlive p) k = tells-map (λ q. absurd (z q)) (λ x. absurd (omega (arith, k, x .0))) (t [])
 
 -- ---- all
 
 pub deliver-exactly : DeliverExactly
-unfolding deliverSpec framedIn frameIn bodyIn headIn
-deliver-exactly s bytes = exactly (deliverRules s bytes) _ refl (go (wellFramed bytes) (fails-frame bytes))
+unfolding deliverSpec deliverAnswer saidIn frameIn bodyIn headIn owing
+deliver-exactly s bytes =
+    rw (answer-by s (deliverState s bytes (saidIn bytes)) (deliverAnswer s bytes (saidIn bytes)))
+    (exactly (deliverRules s bytes) _ refl (go (wellFramed bytes) (fails-frame bytes)))
   where
     f : Frame
     f = frameIn bytes
@@ -347,14 +283,19 @@ deliver-exactly s bytes = exactly (deliverRules s bytes) _ refl (go (wellFramed 
     b : List ℕ
     b = bodyIn bytes
 
-    body-first : ¬ NoFrame bytes → (v : Body) → Sorted (fileDataIn bytes) (toSenderIn bytes) (largeIn bytes) b v
-        → First (deliverRules s bytes) (number (byBody s bytes f v))
-    body-first n _ (bad p) = here 20 _ _ (inr p)
-    body-first n _ (cant p q) = there 20 _ _ _ (⊎-elim n p) (here 21 _ _ q)
-    body-first n _ (means m p q k) =
+    said-first : ¬ NoFrame bytes → (v : Body) → Sorted (fileDataIn bytes) (toSenderIn bytes) (largeIn bytes) b v
+        → First (deliverRules s bytes) (answerNo (deliverAnswer s bytes v))
+    said-first n _ (bad p) = here 20 _ _ (inr p)
+    said-first n _ (cant p q) = there 20 _ _ _ (⊎-elim n p) (here 21 _ _ q)
+    said-first n _ (means m p q k) =
         there 20 _ _ _ (⊎-elim n p)
-        (there 21 _ _ _ q (heard-first s bytes f m _ (any-behind s bytes f (byte b 0) (pairsIn bytes) (largeIn bytes) b m refl k refl)))
+        (there 21 _ _ _ q
+        (line OtherTransaction _ _ _ _ (tells-both (tells-not (tells-idle (s .step))) (tells-denied (fails-same (s .fixed .head) (headIn bytes))))
+        (λ _. line UnexpectedPdu _ _ _ _ (tells-unexpected s (largeIn bytes) b m k)
+        (λ _. line InvalidNakPdu _ _ _ _ (of-nak bytes f (largeIn bytes) b (anyInvalid (s .file .progress)) (OneInvalid (s .file .progress)) (tells-any (s .file .progress)) (λ z. z) m k)
+        (λ _. line RetransmitFull _ _ _ _ (of-nak bytes f (largeIn bytes) b (λ rs. ltb (free (s .queue)) (owing rs)) (λ rs. 64 - s .queue .count < owing rs) (tells-full s) (λ z. omega arith) m k)
+        (λ _. passes))))))
 
-    go : (t : Bool) → Fails t (NoFrame bytes) → First (deliverRules s bytes) (number (byFrame s bytes (pick t (Whole f) NoFrame′)))
-    go true t = body-first (t .no refl) _ (sorted f b)
+    go : (t : Bool) → Fails t (NoFrame bytes) → First (deliverRules s bytes) (answerNo (deliverAnswer s bytes (pick t (bodyOf f b) Malformed)))
+    go true t = said-first (t .no refl) _ (sorted f b)
     go false t = here 20 _ _ (inl (t .yes refl))

@@ -4,7 +4,7 @@ use mathlib.Core.Path.{_≡_, refl}
 use mathlib.Core.Logic.{_↔_, _⊎_, inl, inr, ⊎-elim}
 use mathlib.Core.Bool.{Bool, true, false, true≢false, false≢true}
 use mathlib.Core.List.{List, [], _∷_, _++_}
-use Prim.Native.Nat.{ℕ, _-_}
+use Prim.Native.Nat.{ℕ}
 use lib.Dec.{eqb, ltb}
 use lib.ListN.{length, drop}
 use Rattle.basis.specs.Pick.{pick, _and_, not}
@@ -12,25 +12,17 @@ use Rattle.basis.specs.Bytes.{part}
 use Rattle.basis.specs.Laid.{inFront}
 use Rattle.basis.proofs.Pick.{cases}
 use Rattle.rules_pdu.specs.Reading.{framedIn, bodyOf}
-use Rattle.rules.specs.Refusals.{answerNo}
-use Rattle.rules.specs.States.{isIdle}
+use Rattle.rules.specs.Refusals.{answerNo, byAnswer}
+use Rattle.rules.specs.States.{isIdle, stepNo}
 use Rattle.rules.specs.Queues.{isMetadata, owes, anyInvalid, owing, free}
-use Rattle.rules.specs.Put.{putAnswer, putState, byAnswer, putSpec}
-use Rattle.rules.specs.Deliver.{stepNo, verdictOf, sameTransaction, takesNak, nakOf, asked, byVerdict, heard, byBody, byFrame, deliverSpec}
+use Rattle.rules.specs.Put.{putAnswer, putState, putSpec}
+use Rattle.rules.specs.Deliver.{verdictOf, sameTransaction, asked, byVerdict, deliverSpec, saidIn, deliverAnswer, deliverState}
 use Rattle.rules.specs.Step.{dueOf, afterOf, eventsOf, changed, refusedStep, bytesDue, performed, stepSpec, stepBytes}
 use Rattle.rules.specs.Cancel.{canCancel, mayCancel, userCancelled, cancelSpec}
-use Rattle.rules.specs.Exactly.{stepRules, StepExactly, CancelExactly, CancelMarks, OwesExactly, Counted, none, one, other, OwingExactly, NoEvents, RefusalChangesNothing}
+use Rattle.rules.specs.Exactly.{stepRules, StepExactly, CancelExactly, CancelMarks, OwesExactly, Counted, empty, one, other, OwingExactly, NoEvents, RefusalChangesNothing}
 use Rattle.types.specs.declared.EntityId.{EntityId}
 use Rattle.types.specs.declared.TransactionSeqNum.{TransactionSeqNum}
 use Rattle.types.specs.declared.SegmentRequest.{SegmentRequest}
-use Rattle.types.specs.declared.Frame.{Frame}
-use Rattle.types.specs.declared.Framed.{Framed}
-use Rattle.types.specs.declared.Framed.the-variants.{Malformed as NoFrame, Whole}
-use Rattle.types.specs.declared.Body.{Body}
-use Rattle.types.specs.declared.Body.the-variants.{Malformed as NoBody, CantProcess, Means}
-use Rattle.types.specs.declared.Meaning.{Meaning}
-use Rattle.types.specs.declared.Verdict.{Verdict}
-use Rattle.types.specs.declared.Verdict.the-variants.{Enqueue, Move, Refuse, NoEffect}
 use Rattle.types.specs.declared.State.{State}
 use Rattle.types.specs.declared.TransactionStep.{TransactionStep}
 use Rattle.types.specs.declared.TransactionStep.the-variants.{Idle, SendingMetadata, SendingFileData, SendingEof, WaitingForEofAck, WaitingForFinished, Closing}
@@ -108,7 +100,7 @@ owes-exactly r = tells-iff (search tests)
 
 counted-owing : (rs : List SegmentRequest) → Counted rs (owing rs)
 unfolding owing
-counted-owing [] = none
+counted-owing [] = empty
 counted-owing (r ∷ rs) =
     cases (λ (n : ℕ). Counted (r ∷ rs) n) (owes r) _ _ (λ e. one r rs (owing rs) e (counted-owing rs)) (λ e. other r rs (owing rs) e (counted-owing rs))
 
@@ -124,38 +116,9 @@ owing-exactly = record { counts = counted-owing; metadata-pair = metadata-is }
 abbrev Keeps : State → Done → Type 0
 Keeps s d = ¬ (answerNo (d .answer) ≡ 0) → d .state ≡ s
 
-put-keeps : (s t : State) (a : Answer) → Keeps s (byAnswer s t a)
-put-keeps s t Accepted n = absurd (n refl)
-put-keeps s t (Refused r) n = refl
-
-nak-keeps : (s : State) (rs : List SegmentRequest) → Keeps s (nakOf s rs)
-unfolding nakOf
-nak-keeps s rs =
-    cases (Keeps s) (takesNak s) _ _
-    (λ _. cases (Keeps s) (anyInvalid (s .file .progress) rs) _ _ (λ _ _. refl)
-    (λ _. cases (Keeps s) (ltb (free (s .queue)) (owing rs)) _ _ (λ _ _. refl) (λ _ n. absurd (n refl))))
-    (λ _ _. refl)
-
-verdict-keeps : (s : State) (bytes : List ℕ) (f : Frame) (m : Meaning) (v : Verdict) → Keeps s (byVerdict s bytes f m v)
-verdict-keeps s bytes f m Enqueue = nak-keeps s (asked bytes f m)
-verdict-keeps s bytes f m Move = λ n. absurd (n refl)
-verdict-keeps s bytes f m Refuse = λ n. refl
-verdict-keeps s bytes f m NoEffect = λ n. refl
-
-heard-keeps : (s : State) (bytes : List ℕ) (f : Frame) (m : Meaning) → Keeps s (heard s bytes f m)
-unfolding heard
-heard-keeps s bytes f m =
-    let on = verdict-keeps s bytes f m (verdictOf (s .step) m) in
-    cases (Keeps s) (isIdle (s .step)) _ _ (λ _. on) (λ _. cases (Keeps s) (sameTransaction (s .fixed .head) (f .head)) _ _ (λ _. on) (λ _ _. refl))
-
-body-keeps : (s : State) (bytes : List ℕ) (f : Frame) (b : Body) → Keeps s (byBody s bytes f b)
-body-keeps s bytes f NoBody = λ n. refl
-body-keeps s bytes f CantProcess = λ n. refl
-body-keeps s bytes f (Means m) = heard-keeps s bytes f m
-
-frame-keeps : (s : State) (bytes : List ℕ) (f : Framed) → Keeps s (byFrame s bytes f)
-frame-keeps s bytes NoFrame = λ n. refl
-frame-keeps s bytes (Whole f) = body-keeps s bytes f (bodyOf f (part bytes (f .start) (f .end - f .start)))
+answer-keeps : (s t : State) (a : Answer) → Keeps s (byAnswer s t a)
+answer-keeps s t Accepted n = absurd (n refl)
+answer-keeps s t (Refused r) n = refl
 
 -- what a step's answer and buffer say together
 abbrev StepKeeps : State → List ℕ → Stepped → List ℕ → Type 0
@@ -190,8 +153,8 @@ pub refusal-changes-nothing : RefusalChangesNothing
 unfolding putSpec deliverSpec cancelSpec
 refusal-changes-nothing =
     record {
-      put = λ s c q source destination S. put-keeps s (putState s c q source destination S) (putAnswer s c q source destination S);
-      deliver = λ s bytes. frame-keeps s bytes (framedIn bytes);
+      put = λ s c q source destination S. answer-keeps s (putState s c q source destination S) (putAnswer s c q source destination S);
+      deliver = λ s bytes. answer-keeps s (deliverState s bytes (saidIn bytes)) (deliverAnswer s bytes (saidIn bytes));
       step = step-keeps;
       cancel = λ s source number. cancel-keeps (mayCancel s source number) s (userCancelled s);
     }

@@ -12,11 +12,11 @@ use lib.ListN.{length, take}
 use Rattle.basis.specs.Pick.{pick, _and_, not}
 use Rattle.basis.specs.Bytes.{Bytes}
 use Rattle.basis.proofs.Pick.{both, cases}
-use Rattle.rules.specs.States.{toStep, withQueue, withMarks, counted, emptyQueue, idle}
+use Rattle.rules.specs.States.{toStep, withQueue, withMarks, counted, emptyQueue, idle, stepNo}
 use Rattle.rules.specs.Queues.{served}
 use Rattle.rules.specs.Step.{actionFor, faultDue, ackExpired, checkExpired, dueAt, eofOwed, dueOf, eofFor, cancelEof, nextLength, awaiting, afterCancelEof, afterMetadata, onward, afterData, afterEof, faultMarked, afterOf, changed, bytesDue, performed, stepSpec}
-use Rattle.rules.specs.Put.{putAnswer, putState, byAnswer, putSpec}
-use Rattle.rules.specs.Deliver.{stepNo}
+use Rattle.rules.specs.Put.{putAnswer, putState, putSpec}
+use Rattle.rules.specs.Refusals.{byAnswer}
 use Rattle.rules.specs.Cancel.{canCancel, mayCancel, userCancelled, cancelSpec, resetSpec, newSpec}
 use Rattle.rules.specs.Runs.{Call, put, deliver, step, cancel, reset, behind}
 use Rattle.rules.specs.Good.{GoodQueue, GoodMarks, Under, AllSent, At, Good, GoodKept, Proper, AlwaysGood, AnomalyNeverMoves}

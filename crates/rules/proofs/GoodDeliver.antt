@@ -8,21 +8,19 @@ use Prim.Native.Nat.{ℕ, zero, suc, _+_, _-_, _*_, _/_, _%_, _<_}
 use native.Mathlib.Omega.{arith}
 use lib.Dec.{eqb, ltb}
 use lib.ListN.{length, getD, take, drop}
-use Rattle.basis.specs.Pick.{pick}
 use Rattle.basis.specs.Bytes.{Bytes, part, byte}
 use Rattle.basis.proofs.Pick.{cases}
 use Rattle.rules_pdu.specs.Numbers.{F}
-use Rattle.rules_pdu.specs.Reading.{framedIn, reserved, areTlvs, finishedParams, finishedIn, ackIn, nakIn, keepAliveIn, directiveIn, directed, bodyOf}
-use Rattle.rules.specs.States.{isIdle, toStep, withQueue, settled}
-use Rattle.rules.specs.Queues.{anyInvalid, owing, free, pushAll}
-use Rattle.rules.specs.Deliver.{stepNo, verdictOf, sameTransaction, takesNak, nakOf, requestsIn, finishedOf, byVerdict, heard, byBody, byFrame, deliverSpec}
+use Rattle.rules_pdu.specs.Reading.{hIn, wellFramed, bodyEnd, frameIn, bodyIn, reserved, areTlvs, finishedParams, finishedIn, ackIn, nakIn, keepAliveIn, directiveIn, directed, bodyOf}
+use Rattle.rules.specs.Refusals.{byAnswer}
+use Rattle.rules.specs.States.{stepNo, toStep, withQueue, settled}
+use Rattle.rules.specs.Queues.{pushAll}
+use Rattle.rules.specs.Deliver.{saidIn, meaningOf, asked, requestsIn, verdictOf, finishedOf, byVerdict, deliverAnswer, deliverState, deliverSpec}
 use Rattle.rules.specs.Good.{At, Good}
 use Rattle.types.specs.declared.SegmentRequest.{SegmentRequest}
 use Rattle.types.specs.declared.FinishedParams.{FinishedParams}
 use Rattle.types.specs.declared.Queue.{Queue}
 use Rattle.types.specs.declared.Frame.{Frame}
-use Rattle.types.specs.declared.Framed.{Framed}
-use Rattle.types.specs.declared.Framed.the-variants.{Malformed as NoFrame, Whole}
 use Rattle.types.specs.declared.Body.{Body}
 use Rattle.types.specs.declared.Body.the-variants.{Malformed, CantProcess, Means}
 use Rattle.types.specs.declared.Meaning.{Meaning}
@@ -32,8 +30,10 @@ use Rattle.types.specs.declared.Verdict.the-variants.{Enqueue, Move, Refuse, No
 use Rattle.types.specs.declared.State.{State}
 use Rattle.types.specs.declared.TransactionStep.{TransactionStep}
 use Rattle.types.specs.declared.TransactionStep.the-variants.{Idle, SendingMetadata, SendingFileData, SendingEof, WaitingForEofAck, WaitingForFinished, Closing}
-use Rattle.types.specs.declared.Done.{Done}
-use Rattle.rules.proofs.Tells.{but, tells-step}
+use Rattle.types.specs.declared.Answer.{Answer}
+use Rattle.types.specs.declared.Answer.the-variants.{Accepted, Refused}
+use Rattle.rules.proofs.Tells.{neither, tells-step}
+use Rattle.rules.proofs.Outcomes.{Taken, taken}
 use Rattle.rules.proofs.Table.{verdict-nak, verdict-ack, verdict-finished, verdict-keep}
 use Rattle.rules.proofs.GoodQueue.{good-empty, all-good}
 use Rattle.rules.proofs.GoodMarks.{good-settled, good-told}
@@ -118,6 +118,17 @@ body-small f b h =
     (λ _. cases SmallBody (eqb (length b) 0) _ _ (λ _. tt)
     (λ _. directed-small (f .tosender) (directiveIn (f .head .large) (byte b 0) b) (directive-small b h (f .head .large) (byte b 0))))
 
+said-small : (bytes : List ℕ) → Bytes bytes → SmallBody (saidIn bytes)
+unfolding saidIn bodyIn part
+said-small bytes h =
+    cases SmallBody (wellFramed bytes) _ _
+    (λ _. body-small (frameIn bytes) (bodyIn bytes) (bytes-take (bodyEnd bytes - hIn bytes) (drop (hIn bytes) bytes) (bytes-drop (hIn bytes) bytes h))) (λ _. tt)
+
+meaning-small : (v : Body) → SmallBody v → Small (meaningOf v)
+meaning-small Malformed h = tt
+meaning-small CantProcess h = tt
+meaning-small (Means m) h = h
+
 -- ---- by the verdict
 
 -- a step that queues
@@ -131,27 +142,19 @@ queues-at s WaitingForFinished q i m c p = p
 queues-at s Closing q i m c p = absurd (c refl)
 
 module _ (s : State) (g : Good s) where
-  nak-good : (rs : List SegmentRequest) → ¬ (s .step ≡ Idle) → ¬ (s .step ≡ SendingMetadata) → ¬ (s .step ≡ Closing) → Good (nakOf s rs .state)
-  unfolding nakOf takesNak
-  nak-good rs i m c =
-      let P : Done → Type 0 = λ d. Good (d .state) in
-      cases P (pick (s .fixed .head .unacknowledged) false (pick (s .marks .cancelled) false true)) _ _
-      (λ t.
-      let a = but (s .fixed .head .unacknowledged) (pick (s .marks .cancelled) false true) t in
-      let b = but (s .marks .cancelled) true (a .1) in
-      cases P (anyInvalid (s .file .progress) rs) _ _ (λ _. g)
-      (λ v. cases P (ltb (free (s .queue)) (owing rs)) _ _ (λ _. g)
-      (λ _.
+  nak-good : (rs : List SegmentRequest) (n : ℕ) → ¬ (s .step ≡ Idle) → ¬ (s .step ≡ SendingMetadata) → ¬ (s .step ≡ Closing) → Taken s rs (Nak n)
+      → Good (withQueue s (pushAll (s .queue) rs))
+  nak-good rs n i m c t =
+      let a = neither (s .fixed .head .unacknowledged) (s .marks .cancelled) (t .unbarred) in
       record {
-        queue = all-good (s .file .progress) (s .queue) rs v (g .queue);
+        queue = all-good (s .file .progress) (s .queue) rs (t .valid) (g .queue);
         progress = g .progress;
         sum = g .sum;
         count = g .count;
         marks = g .marks;
-        silent = ⊎-elim (λ x. absurd (true≢false (sym x ∙ a .0))) (λ x. absurd (true≢false (sym x ∙ b .0)));
+        silent = ⊎-elim (λ x. absurd (true≢false (sym x ∙ a .0))) (λ x. absurd (true≢false (sym x ∙ a .1)));
         here = queues-at s (s .step) (pushAll (s .queue) rs) i m c (g .here);
-      })))
-      (λ _. g)
+      }
 
   finished-good : (p : FinishedParams) → p .condition < 16 → At WaitingForFinished s → Good (finishedOf s p)
   finished-good p l w =
@@ -177,46 +180,32 @@ module _ (s : State) (g : Good s) where
         here = (w .0, λ a. absurd (true≢false (sym a ∙ w .1)), w .2);
       }
 
-  verdict-good : (bytes : List ℕ) (f : Frame) (m : Meaning) → Small m → Good (byVerdict s bytes f m (verdictOf (s .step) m) .state)
-  verdict-good bytes f (Finished p) l =
-      let P : Verdict → Type 0 = λ v. Good (byVerdict s bytes f (Finished p) v .state) in
+  verdict-good : (bytes : List ℕ) (f : Frame) (m : Meaning) → Small m → Taken s (asked bytes f m) m
+      → Good (byVerdict s (asked bytes f m) m (verdictOf (s .step) m))
+  verdict-good bytes f (Finished p) l t =
+      let P : Verdict → Type 0 = λ v. Good (byVerdict s [] (Finished p) v) in
       rw (verdict-finished (s .step) p)
       (cases P (eqb (stepNo (s .step)) 0) NoEffect _ (λ _. g)
       (λ _. cases P (eqb (stepNo (s .step)) 5) Move Refuse
       (λ e. finished-good p l (subst (λ (k : TransactionStep). At k s) (tells-step (s .step) WaitingForFinished .yes e) (g .here))) (λ _. g)))
-  verdict-good bytes f AckOfEof l =
-      let P : Verdict → Type 0 = λ v. Good (byVerdict s bytes f AckOfEof v .state) in
+  verdict-good bytes f AckOfEof l t =
+      let P : Verdict → Type 0 = λ v. Good (byVerdict s [] AckOfEof v) in
       rw (verdict-ack (s .step))
       (cases P (eqb (stepNo (s .step)) 4) Move Refuse
       (λ e. acked-good (subst (λ (k : TransactionStep). At k s) (tells-step (s .step) WaitingForEofAck .yes e) (g .here))) (λ _. g))
-  verdict-good bytes f (Nak n) l =
-      let P : Verdict → Type 0 = λ v. Good (byVerdict s bytes f (Nak n) v .state) in
+  verdict-good bytes f (Nak n) l t =
+      let P : Verdict → Type 0 = λ v. Good (byVerdict s (requestsIn bytes f n) (Nak n) v) in
       rw (verdict-nak (s .step) n)
       (cases P (eqb (stepNo (s .step)) 0) Refuse _ (λ _. g)
       (λ i. cases P (eqb (stepNo (s .step)) 1) Refuse _ (λ _. g)
       (λ m. cases P (eqb (stepNo (s .step)) 6) Refuse Enqueue (λ _. g)
-      (λ c. nak-good (requestsIn bytes f n) (tells-step (s .step) Idle .no i) (tells-step (s .step) SendingMetadata .no m) (tells-step (s .step) Closing .no c)))))
-  verdict-good bytes f (KeepAlive p) l = rw (verdict-keep (s .step) p) g
-
-  heard-good : (bytes : List ℕ) (f : Frame) (m : Meaning) → Small m → Good (heard s bytes f m .state)
-  unfolding heard
-  heard-good bytes f m l =
-      let P : Done → Type 0 = λ d. Good (d .state) in
-      cases P (isIdle (s .step)) _ _ (λ _. verdict-good bytes f m l)
-      (λ _. cases P (sameTransaction (s .fixed .head) (f .head)) _ _ (λ _. verdict-good bytes f m l) (λ _. g))
-
-  body-good : (bytes : List ℕ) (f : Frame) (v : Body) → SmallBody v → Good (byBody s bytes f v .state)
-  body-good bytes f Malformed l = g
-  body-good bytes f CantProcess l = g
-  body-good bytes f (Means m) l = heard-good bytes f m l
-
-  frame-good : (bytes : List ℕ) → Bytes bytes → (f : Framed) → Good (byFrame s bytes f .state)
-  unfolding part
-  frame-good bytes h NoFrame = g
-  frame-good bytes h (Whole f) =
-      let b = part bytes (f .start) (f .end - f .start) in
-      body-good bytes f (bodyOf f b) (body-small f b (bytes-take (f .end - f .start) (drop (f .start) bytes) (bytes-drop (f .start) bytes h)))
+      (λ c. nak-good (requestsIn bytes f n) n (tells-step (s .step) Idle .no i) (tells-step (s .step) SendingMetadata .no m) (tells-step (s .step) Closing .no c) t))))
+  verdict-good bytes f (KeepAlive p) l t = rw (verdict-keep (s .step) p) g
 
   pub deliver-good : (bytes : List ℕ) → Bytes bytes → Good (deliverSpec s bytes .state)
-  unfolding deliverSpec
-  deliver-good bytes h = frame-good bytes h (framedIn bytes)
+  unfolding deliverSpec deliverState
+  deliver-good bytes h = go (deliverAnswer s bytes (saidIn bytes)) refl
+    where
+      go : (x : Answer) → deliverAnswer s bytes (saidIn bytes) ≡ x → Good (byAnswer s (deliverState s bytes (saidIn bytes)) x .state)
+      go Accepted e = verdict-good bytes (frameIn bytes) (meaningOf (saidIn bytes)) (meaning-small (saidIn bytes) (said-small bytes h)) (taken s bytes (saidIn bytes) e)
+      go (Refused r) e = g

@@ -9,12 +9,12 @@ use borrow.Author.Tests.{le-ltb}
 use lib.Dec.{eqb, ltb}
 use lib.ListN.{length, take, replicate, length-append, length-replicate}
 use lib.Seq.{take-append-seam, drop-append-seam}
-use Rattle.basis.specs.Pick.{pick}
+use Rattle.basis.specs.Pick.{pick, _and_, not}
 use Rattle.basis.proofs.Pick.{both}
 use Rattle.rules_leaves.specs.Utf8.{isUtf8}
 use Rattle.rules_pdu.specs.Layout.{metadata, encode, pduLength}
 use Rattle.rules.specs.States.{isIdle}
-use Rattle.rules.specs.Put.{idsFit, isFound, entryOf, knownType, allKnown, goodEntry, goodConfig, goodLengths, headOf, tooLong, padded, paddedLength, fixedOf, started, entryAnswer, putAnswer, putState}
+use Rattle.rules.specs.Put.{idsFit, isFound, entryOf, knownType, allKnown, goodEntry, goodConfig, goodLengths, headOf, tooLong, padded, paddedLength, fixedOf, started, putAnswer, putState}
 use Rattle.rules.specs.Good.{GoodFixed, GoodName, Good}
 use Rattle.types.specs.declared.TransactionSeqNum.{TransactionSeqNum}
 use Rattle.types.specs.declared.Head.{Head}
@@ -25,17 +25,13 @@ use Rattle.types.specs.declared.State.{State}
 use Rattle.types.specs.declared.Refusal.{Refusal}
 use Rattle.types.specs.declared.Answer.the-variants.{Accepted, Refused}
 use Rattle.rules.proofs.Tells.{but}
-use Rattle.rules.proofs.Outcomes.{passed}
+use Rattle.rules.proofs.Outcomes.{passed, passed-not}
 use Rattle.rules.proofs.Begun.{head-fit, entry-good, name-lengths, packet-holds, segment-range}
 use Rattle.rules.proofs.PutExactly.{tells-type, fails-actions}
 use Rattle.rules_pdu.proofs.Round.{length-encode}
 use Rattle.rules_leaves.proofs.Utf8.{utf8-exactly}
 use Rattle.rules.proofs.GoodQueue.{good-empty}
 use Rattle.rules.proofs.GoodMarks.{good-noMarks}
-
-passed-last : (b : Bool) (r : Refusal) → pick b (Refused r) Accepted ≡ Accepted → b ≡ false
-passed-last true r e = absurd (let z : _≡_ {A = ℕ} 0 1 = cc in omega arith)
-passed-last false r e = refl
 
 -- ---- the names
 
@@ -66,9 +62,9 @@ good-name name n u =
 known : (e : RemoteEntityConfig) (actions : List ℕ) → goodConfig e actions ≡ true → (knownType (e .checksum) ≡ true) × (allKnown actions ≡ true)
 unfolding goodConfig goodEntry
 known e actions g =
-    let t = both (pick (ltb 4096 (e .maxpacket)) false (pick (eqb (e .maxsegment) 0) false (knownType (e .checksum)))) (allKnown actions) g in
-    let u = but (ltb 4096 (e .maxpacket)) (pick (eqb (e .maxsegment) 0) false (knownType (e .checksum))) (t .0) in
-    (but (eqb (e .maxsegment) 0) (knownType (e .checksum)) (u .1) .1, t .1)
+    let t = both (goodEntry e) (allKnown actions) g in
+    let u = both (not (ltb 4096 (e .maxpacket))) (not (eqb (e .maxsegment) 0) and knownType (e .checksum)) (t .0) in
+    (both (not (eqb (e .maxsegment) 0)) (knownType (e .checksum)) (u .1) .1, t .1)
 
 good-fixed : (c : LocalEntityConfig) (e : RemoteEntityConfig) (q : PutRequest) (n : TransactionSeqNum) (source destination : List ℕ) (S : ℕ)
     → idsFit (c .id) (q .destination) n ≡ true → goodConfig e (c .actions) ≡ true → tooLong (headOf c e q n S) e source destination ≡ false → S < 2 ^ 64
@@ -102,18 +98,18 @@ meta-room h e closure type n source destination a b l p i j =
 
 pub put-good : (s : State) (c : LocalEntityConfig) (q : PutRequest) (source destination : List ℕ) (S : ℕ) → S < 2 ^ 64
     → putAnswer s c q source destination S ≡ Accepted → Good (putState s c q source destination S)
-unfolding putAnswer entryAnswer putState started
+unfolding putAnswer putState started
 put-good s c q source destination S S64 e₀ =
     let e = entryOf c (q .destination .1) in
     let h = headOf c e q (s .number) S in
-    let t₁ = passed (isIdle (s .step)) _ _ e₀ in
-    let t₂ = passed (idsFit (c .id) (q .destination) (s .number)) _ _ (t₁ .1) in
-    let t₃ = passed (isFound c (q .destination .1)) _ _ (t₂ .1) in
-    let t₄ = passed (goodConfig e (c .actions)) _ _ (t₃ .1) in
-    let t₅ = passed (goodLengths (length source) (length destination)) _ _ (t₄ .1) in
-    let t₆ = passed (isUtf8 source) _ _ (t₅ .1) in
-    let t₇ = passed (isUtf8 destination) _ _ (t₆ .1) in
-    let t₈ = passed-last (tooLong h e source destination) _ (t₇ .1) in
+    let t₁ = passed-not (isIdle (s .step)) _ _ e₀ in
+    let t₂ = passed-not (idsFit (c .id) (q .destination) (s .number)) _ _ (t₁ .1) in
+    let t₃ = passed-not (isFound c (q .destination .1)) _ _ (t₂ .1) in
+    let t₄ = passed-not (goodConfig e (c .actions)) _ _ (t₃ .1) in
+    let t₅ = passed-not (goodLengths (length source) (length destination)) _ _ (t₄ .1) in
+    let t₆ = passed-not (isUtf8 source) _ _ (t₅ .1) in
+    let t₇ = passed-not (isUtf8 destination) _ _ (t₆ .1) in
+    let t₈ = passed (tooLong h e source destination) _ _ (t₇ .1) .0 in
     let lengths = name-lengths (length source) (length destination) (t₅ .0) in
     record {
       queue = good-empty 0;

@@ -13,9 +13,10 @@ use lib.ListN.{length}
 use lib.Seq.{take-length}
 use borrow.Author.Tests.{eqb-true, eqb-false, ltb-true, ltb-false}
 use Rattle.basis.specs.Pick.{pick}
+use Rattle.rules.specs.Refusals.{refused, accepted}
 use Rattle.rules.specs.States.{isIdle, toStep, withQueue}
-use Rattle.rules.specs.Queues.{pending, oldest, pop, piece, served, isMetadata}
-use Rattle.rules.specs.Deliver.{refused, accepted, nakOf, verdictOf, byVerdict, asked, requestsIn, deliverSpec}
+use Rattle.rules.specs.Queues.{pending, pushAll, oldest, pop, piece, served, isMetadata}
+use Rattle.rules.specs.Deliver.{isRefuse, verdictOf, byVerdict, asked, requestsIn, deliverSpec}
 use Rattle.rules.specs.Step.{eofOwed, dueAt, dueOf, eofFor, repairOf, nextLength, sendingOf, afterMetadata, afterData, onward, afterOf}
 use Rattle.rules.specs.Tiles.{tiles, answers}
 use Rattle.rules.specs.Runs.{Call, put, deliver, step, cancel, reset, Shown, turned, took, went, ended, after, unless, shows, LendsIn, requests}
@@ -34,11 +35,10 @@ use Rattle.types.specs.declared.Due.the-variants.{CancelEof, Repair}
 use Rattle.types.specs.declared.Sending.{Sending}
 use Rattle.types.specs.declared.Sending.the-variants.{Nothing as NoPdu, Metadata as MetadataPdu, FileData, Eof as EofPdu, AckFinished}
 use Rattle.types.specs.declared.Refusal.{Refusal}
-use Rattle.types.specs.declared.Refusal.the-variants.{UnexpectedPdu}
 use Rattle.types.specs.declared.Done.{Done}
 use Rattle.rules.proofs.Tiles.{tiles-zero, tiles-step, tiles-one, Within, within-more}
 use Rattle.rules.proofs.Pending.{pending-none, pending-first, Orderly, orderly-more, due-within, served-answers, orderly-served}
-use Rattle.rules.proofs.Outcomes.{put-by, cancel-by, delivered-by, Naks, nak-adds}
+use Rattle.rules.proofs.Outcomes.{put-by, cancel-by, delivered-by, nak-adds, Taken}
 use Rattle.rules.proofs.Emits.{bytesOf, Sends, encode-pos, StepShows, step-shows}
 
 -- ---- the invariant
@@ -341,44 +341,45 @@ data Takes (w : Transfer) (s : State) (rs : List SegmentRequest) : Done → Type
 
 module _ (w : Transfer) (s : State) (i : Inv w s) where
   nak-takes :
-      (rs : List SegmentRequest)
+      (rs : List SegmentRequest) (m : Meaning)
       → ((l : List SegmentRequest) → At (length (w .file)) (s .step) (s .file .progress) l)
       → s .file .progress ≤ length (w .file)
-      → Takes w s rs (nakOf s rs)
-  nak-takes rs h l = go (nakOf s rs) (nak-adds (w .segment) (s .file .progress) s (i .pos) (i .orderly) (omega arith) rs)
-    where
-      go : (r : Done) → Naks (w .segment) (s .file .progress) s rs r → Takes w s rs r
-      go r (Naks.turns n) = turns n
-      go r (Naks.adds q c a v o) = adds (withQueue s q) a refl (within-more (w .segment) (s .file .progress) (length (w .file)) (answers (w .segment) rs) l v) refl (held w s i (s .step) (s .file) q o (h (pending q)))
+      → Taken s rs m
+      → Takes w s rs (accepted (withQueue s (pushAll (s .queue) rs)))
+  nak-takes rs m h l t =
+      let a = nak-adds (w .segment) (s .file .progress) s (i .pos) (i .orderly) (omega arith) rs m t in
+      adds (withQueue s (pushAll (s .queue) rs)) (a .0) refl (within-more (w .segment) (s .file .progress) (length (w .file)) (answers (w .segment) rs) l (a .1)) refl
+      (held w s i (s .step) (s .file) (pushAll (s .queue) rs) (a .2) (h (pending (pushAll (s .queue) rs))))
 
   no-effect : Takes w s [] (accepted s)
   unfolding answers
   no-effect = adds s (sym (append-nil (owedBy w s))) refl tt refl i
 
-  -- by the table, step by step
+  -- by the table, step by step; what is no NAK changes nothing here
   by-table :
       (bytes : List ℕ) (f : Frame) (k : TransactionStep) (m : Meaning) → s .step ≡ k → At (length (w .file)) k (s .file .progress) (pending (s .queue))
-      → Takes w s (asked bytes f m) (byVerdict s bytes f m (verdictOf k m))
+      → isRefuse (verdictOf k m) ≡ false → Taken s (asked bytes f m) m
+      → Takes w s (asked bytes f m) (accepted (byVerdict s (asked bytes f m) m (verdictOf k m)))
   unfolding verdictOf
-  by-table bytes f Idle m e h = absurd h
-  by-table bytes f SendingMetadata (Finished p) e h = turns UnexpectedPdu
-  by-table bytes f SendingMetadata AckOfEof e h = turns UnexpectedPdu
-  by-table bytes f SendingMetadata (Nak n) e h = turns UnexpectedPdu
-  by-table bytes f SendingMetadata (KeepAlive p) e h = no-effect
-  by-table bytes f SendingFileData (Finished p) e h = turns UnexpectedPdu
-  by-table bytes f SendingFileData AckOfEof e h = turns UnexpectedPdu
-  by-table bytes f SendingFileData (Nak n) e h = nak-takes (requestsIn bytes f n) (λ l. rw e h) (omega arith)
-  by-table bytes f SendingFileData (KeepAlive p) e h = no-effect
-  by-table bytes f SendingEof (Finished p) e h = turns UnexpectedPdu
-  by-table bytes f SendingEof AckOfEof e h = turns UnexpectedPdu
-  by-table bytes f SendingEof (Nak n) e h = nak-takes (requestsIn bytes f n) (λ l. rw e h) (omega arith)
-  by-table bytes f SendingEof (KeepAlive p) e h = no-effect
-  by-table bytes f WaitingForEofAck m e h = absurd h
-  by-table bytes f WaitingForFinished m e h = absurd h
-  by-table bytes f Closing m e h = absurd h
+  by-table bytes f Idle m e h x t = absurd h
+  by-table bytes f SendingMetadata (Finished p) e h x t = no-effect
+  by-table bytes f SendingMetadata AckOfEof e h x t = no-effect
+  by-table bytes f SendingMetadata (Nak n) e h x t = absurd (true≢false x)
+  by-table bytes f SendingMetadata (KeepAlive p) e h x t = no-effect
+  by-table bytes f SendingFileData (Finished p) e h x t = no-effect
+  by-table bytes f SendingFileData AckOfEof e h x t = no-effect
+  by-table bytes f SendingFileData (Nak n) e h x t = nak-takes (requestsIn bytes f n) (Nak n) (λ l. rw e h) (omega arith) t
+  by-table bytes f SendingFileData (KeepAlive p) e h x t = no-effect
+  by-table bytes f SendingEof (Finished p) e h x t = no-effect
+  by-table bytes f SendingEof AckOfEof e h x t = no-effect
+  by-table bytes f SendingEof (Nak n) e h x t = nak-takes (requestsIn bytes f n) (Nak n) (λ l. rw e h) (omega arith) t
+  by-table bytes f SendingEof (KeepAlive p) e h x t = no-effect
+  by-table bytes f WaitingForEofAck m e h x t = absurd h
+  by-table bytes f WaitingForFinished m e h x t = absurd h
+  by-table bytes f Closing m e h x t = absurd h
 
   deliver-moves : (bytes : List ℕ) → Moves w s (shows (deliver bytes) s) (after (deliver bytes) s)
-  deliver-moves bytes = go (deliverSpec s bytes) (delivered-by s (Takes w s) (λ rs r. turns r) (λ x f m. by-table x f (s .step) m refl (i .here)) bytes)
+  deliver-moves bytes = go (deliverSpec s bytes) (delivered-by s (Takes w s) (λ rs r. turns r) (λ x f m t. by-table x f (s .step) m refl (i .here) (t .expected) t) bytes)
     where
       go : (r : Done) → Takes w s (requests bytes) r → Moves w s (unless (r .answer) (took bytes)) (r .state)
       go r (Takes.turns n) = refuses

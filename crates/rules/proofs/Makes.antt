@@ -8,8 +8,9 @@ use lib.Dec.{ltb}
 use lib.ListN.{length}
 use Rattle.basis.specs.Pick.{pick}
 use Rattle.basis.proofs.Pick.{cases}
-use Rattle.rules.specs.Put.{entryOf, chosen, started, putAnswer, putState, byAnswer, putSpec}
+use Rattle.rules.specs.Put.{entryOf, chosen, started, putAnswer, putState, putSpec}
 use Rattle.rules.specs.Step.{actionFor, faultDue, checkExpired, dueAt, eofOwed, dueOf, eofFor, sendingOf, afterCancelEof, afterEof, afterOf, eventsOf, refusedStep, changed, performed, stepSpec}
+use Rattle.rules.specs.Refusals.{byAnswer}
 use Rattle.rules.specs.Makes.{Chosen, PutMade, PutMakes, MovedMakes, FirstEof, Checks, StepMakes}
 use Rattle.types.specs.declared.Choice.{Choice}
 use Rattle.types.specs.declared.Choice.the-variants.{Given, Default}

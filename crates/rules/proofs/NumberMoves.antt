@@ -9,14 +9,15 @@ use lib.ListN.{length}
 use Rattle.basis.proofs.Pick.{cases}
 use Rattle.rules.specs.States.{idle}
 use Rattle.rules.specs.Queues.{anyInvalid, owing, free}
-use Rattle.rules.specs.Put.{started, putAnswer, putState, byAnswer, putSpec}
-use Rattle.rules.specs.Deliver.{verdictOf, takesNak, nakOf, movedBy, asked, byVerdict, deliverSpec}
+use Rattle.rules.specs.Put.{started, putAnswer, putState, putSpec}
+use Rattle.rules.specs.Deliver.{verdictOf, movedBy, asked, byVerdict, deliverSpec}
 use Rattle.rules.specs.Step.{dueOf, nextLength, afterCancelEof, afterMetadata, afterData, afterEof, afterOf, changed, bytesDue, performed, stepSpec}
+use Rattle.rules_pdu.specs.Numbers.{numberAfter}
+use Rattle.rules.specs.Refusals.{byAnswer}
 use Rattle.rules.specs.Cancel.{resetSpec}
 use Rattle.rules.specs.Runs.{put, deliver, step, cancel, reset, Shown, began, took, went, after, unless, trace, behind}
 use Rattle.rules.specs.NumberMoves.{moves, movesAll, NumberMoves, NumberBehind}
 use Rattle.types.specs.declared.SegmentRequest.{SegmentRequest}
-use Rattle.types.specs.declared.Frame.{Frame}
 use Rattle.types.specs.declared.Meaning.{Meaning}
 use Rattle.types.specs.declared.Meaning.the-variants.{Finished, AckOfEof, Nak, KeepAlive}
 use Rattle.types.specs.declared.Verdict.{Verdict}
@@ -28,7 +29,6 @@ use Rattle.types.specs.declared.Due.{Due}
 use Rattle.types.specs.declared.Due.the-variants.{CancelEof, Repair, Metadata, Data, NoErrorEof, EofAgain, FaultCancel, FaultIgnore, FaultAbandon, Close, Nothing}
 use Rattle.types.specs.declared.Answer.{Answer}
 use Rattle.types.specs.declared.Answer.the-variants.{Accepted, Refused}
-use Rattle.types.specs.declared.Done.{Done}
 use Rattle.types.specs.declared.Stepped.{Stepped}
 use Rattle.rules.proofs.Outcomes.{cancel-by, delivered-by}
 
@@ -61,22 +61,14 @@ module _ (s : State) where
   moved-same (Nak n) = refl
   moved-same (KeepAlive p) = refl
 
-  nak-same : (rs : List SegmentRequest) → Same (nakOf s rs .state)
-  unfolding nakOf
-  nak-same rs =
-      let P : Done → Type 0 = λ d. Same (d .state) in
-      cases P (takesNak s) _ _
-      (λ _. cases P (anyInvalid (s .file .progress) rs) _ _ (λ _. refl) (λ _. cases P (ltb (free (s .queue)) (owing rs)) _ _ (λ _. refl) (λ _. refl)))
-      (λ _. refl)
-
-  verdict-same : (bytes : List ℕ) (f : Frame) (m : Meaning) (v : Verdict) → Same (byVerdict s bytes f m v .state)
-  verdict-same bytes f m Enqueue = nak-same (asked bytes f m)
-  verdict-same bytes f m Move = moved-same m
-  verdict-same bytes f m Refuse = refl
-  verdict-same bytes f m NoEffect = refl
+  verdict-same : (rs : List SegmentRequest) (m : Meaning) (v : Verdict) → Same (byVerdict s rs m v)
+  verdict-same rs m Enqueue = refl
+  verdict-same rs m Move = moved-same m
+  verdict-same rs m Refuse = refl
+  verdict-same rs m NoEffect = refl
 
   deliver-same : (bytes : List ℕ) → Same (deliverSpec s bytes .state)
-  deliver-same bytes = delivered-by s (λ _ d. Same (d .state)) (λ rs r. refl) (λ b f m. verdict-same b f m (verdictOf (s .step) m)) bytes
+  deliver-same bytes = delivered-by s (λ _ d. Same (d .state)) (λ rs r. refl) (λ b f m t. verdict-same (asked b f m) m (verdictOf (s .step) m)) bytes
 
   -- ---- step
 

@@ -1,7 +1,7 @@
 -- From a cascade of tests to a table of refusals: what gives the first number whose condition holds gives each number exactly when.
 -- Assumes nothing.
 use mathlib.Core.Path.{_≡_, refl, sym, subst, _∙_}
-use mathlib.Core.Logic.{_⊎_, inl, inr, ⊎-elim}
+use mathlib.Core.Logic.{_⊎_, inl, inr}
 use mathlib.Core.Bool.{Bool, true, false}
 use mathlib.Core.List.{List, [], _∷_}
 use Prim.Native.Nat.{ℕ}
@@ -9,8 +9,12 @@ use borrow.Author.Tests.{eqb-false}
 use lib.Dec.{eqb}
 use Rattle.basis.specs.Pick.{pick}
 use Rattle.basis.proofs.Pick.{both}
-use Rattle.rules.specs.Exactly.{Rule, _when_, After, Exactly}
+use Rattle.rules.specs.Exactly.{Rule, _when_, After, Exactly, NoneOf}
 use Rattle.rules.proofs.Tells.{Tells, Fails, but}
+use Rattle.rules.specs.Refusals.{refusalNo, answerNo}
+use Rattle.types.specs.declared.Refusal.{Refusal}
+use Rattle.types.specs.declared.Answer.{Answer}
+use Rattle.types.specs.declared.Answer.the-variants.{Refused}
 
 -- the number of the first line whose condition holds, 0 if none does
 abbrev FirstIs : List Rule → ℕ → Type 0
@@ -42,11 +46,11 @@ pub hits : {A : Type 0} (f : A → ℕ) (b : Bool) (x y : A) (k : ℕ) (P : Type
 hits f true x y k P rs t e r = record { is = inl (t .yes refl, e) }
 hits f false x y k P rs t e r = record { is = inr (t .no refl, r refl .is) }
 
--- the test of its contrary fails
-pub fails : {A : Type 0} (f : A → ℕ) (b : Bool) (x y : A) (k : ℕ) (P : Type 0) (rs : List Rule)
-    → Fails b P → f y ≡ k → (b ≡ true → First rs (f x)) → First ((k when P) ∷ rs) (f (pick b x y))
-fails f true x y k P rs t e r = record { is = inr (t .no refl, r refl .is) }
-fails f false x y k P rs t e r = record { is = inl (t .yes refl, e) }
+-- a line of a table of tests beside one of a table of conditions
+pub line : (r : Refusal) (b : Bool) (rest : Answer) (P : Type 0) (rs : List Rule)
+    → Tells b P → (b ≡ false → First rs (answerNo rest)) → First ((refusalNo r when P) ∷ rs) (answerNo (pick b (Refused r) rest))
+line r true rest P rs t f = record { is = inl (t .yes refl, refl) }
+line r false rest P rs t f = record { is = inr (t .no refl, f refl .is) }
 
 -- none holds
 pub passes : First [] 0
@@ -58,24 +62,6 @@ here k P rs p = record { is = inl (p, refl) }
 
 pub there : (k : ℕ) (P : Type 0) (rs : List Rule) (n : ℕ) → ¬ P → First rs n → First ((k when P) ∷ rs) n
 there k P rs n p r = record { is = inr (p, r .is) }
-
--- one of two conditions with the same number
-pub either : {A : Type 0} (f : A → ℕ) (b : Bool) (x y : A) (k : ℕ) (P Q : Type 0) (rs : List Rule)
-    → Tells b P → f x ≡ k → First ((k when Q) ∷ rs) (f y) → First ((k when (P ⊎ Q)) ∷ rs) (f (pick b x y))
-either f true x y k P Q rs t e r = record { is = inl (inl (t .yes refl), e) }
-either f false x y k P Q rs t e r = record { is = go (r .is) }
-  where
-    go : FirstIs ((k when Q) ∷ rs) (f y) → FirstIs ((k when (P ⊎ Q)) ∷ rs) (f y)
-    go (inl q) = inl (inr (q .0), q .1)
-    go (inr q) = inr (⊎-elim (t .no refl) (q .0), q .1)
-
--- conditions said in another way
-pub anew : (k : ℕ) (P Q : Type 0) (rs ts : List Rule) (n : ℕ) → (P → Q) → (Q → P) → (First rs n → First ts n) → First ((k when P) ∷ rs) n → First ((k when Q) ∷ ts) n
-anew k P Q rs ts n p q r f = record { is = go (f .is) }
-  where
-    go : FirstIs ((k when P) ∷ rs) n → FirstIs ((k when Q) ∷ ts) n
-    go (inl h) = inl (p (h .0), h .1)
-    go (inr h) = inr (λ x. h .0 (q x), r (record { is = h .1 }) .is)
 
 -- ---- from the first to exactly
 
@@ -91,18 +77,18 @@ another k ((j when P) ∷ rs) n f (inl p) h = f .0 (sym h ∙ p .1)
 another k ((j when P) ∷ rs) n f (inr p) h = another k rs n (f .1) (p .1) h
 
 -- a line before has given the number
-past : (none : Type 0) → ¬ none → (rs : List Rule) (n : ℕ) → Free n rs → After none rs n
-past none h [] n f = (λ e. absurd (f e), λ p. absurd (h p))
-past none h ((k when P) ∷ rs) n f = ((λ e. absurd (f .0 e), λ p. absurd (h (p .1))), past ((¬ P) × none) (λ p. h (p .1)) rs n (f .1))
+past : (earlier : List Rule) → ¬ NoneOf earlier → (rs : List Rule) (n : ℕ) → Free n rs → After earlier rs n
+past earlier h [] n f = (λ e. absurd (f e), λ p. absurd (h p))
+past earlier h ((k when P) ∷ rs) n f = ((λ e. absurd (f .0 e), λ p. absurd (h (p .1))), past ((k when P) ∷ earlier) (λ p. h (p .1)) rs n (f .1))
 
-after : (none : Type 0) → none → (rs : List Rule) (n : ℕ) → distinct rs ≡ true → FirstIs rs n → After none rs n
-after none h [] n d e = (λ _. h, λ _. e)
-after none h ((k when P) ∷ rs) n d (inl p) =
+after : (earlier : List Rule) → NoneOf earlier → (rs : List Rule) (n : ℕ) → distinct rs ≡ true → FirstIs rs n → After earlier rs n
+after earlier h [] n d e = (λ _. h, λ _. e)
+after earlier h ((k when P) ∷ rs) n d (inl p) =
     let f = free-is k rs (both (free k rs) (distinct rs) d .0) in
-    ((λ _. (p .0, h), λ _. p .1), past ((¬ P) × none) (λ q. q .0 (p .0)) rs n (subst (λ (m : ℕ). Free m rs) (sym (p .1)) f))
-after none h ((k when P) ∷ rs) n d (inr p) =
+    ((λ _. (p .0, h), λ _. p .1), past ((k when P) ∷ earlier) (λ q. q .0 (p .0)) rs n (subst (λ (m : ℕ). Free m rs) (sym (p .1)) f))
+after earlier h ((k when P) ∷ rs) n d (inr p) =
     let f = both (free k rs) (distinct rs) d in
-    ((λ e. absurd (another k rs n (free-is k rs (f .0)) (p .1) e), λ q. absurd (p .0 (q .0))), after ((¬ P) × none) (p .0, h) rs n (f .1) (p .1))
+    ((λ e. absurd (another k rs n (free-is k rs (f .0)) (p .1) e), λ q. absurd (p .0 (q .0))), after ((k when P) ∷ earlier) (p .0, h) rs n (f .1) (p .1))
 
 pub exactly : (rs : List Rule) (n : ℕ) → distinct rs ≡ true → First rs n → Exactly rs n
-exactly rs n d f = after (Unit {0}) tt rs n d (f .is)
+exactly rs n d f = after [] tt rs n d (f .is)

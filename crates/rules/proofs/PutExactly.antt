@@ -14,19 +14,18 @@ use Rattle.basis.specs.Pick.{pick}
 use Rattle.rules_pdu.specs.Numbers.{goodWidth, fits}
 use Rattle.rules_leaves.specs.Utf8.{isUtf8, Utf8}
 use Rattle.rules_pdu.specs.Layout.{metadata, encode, pduLength}
-use Rattle.rules.specs.Refusals.{answerNo}
-use Rattle.rules.specs.States.{isIdle}
-use Rattle.rules.specs.Put.{idsFit, findIn, entries, isFound, noRemote, entryOf, knownType, knownAction, allKnown, goodEntry, goodConfig, goodLength, goodLengths, headOf, tooLong, entryAnswer, putAnswer, byAnswer, putState, putSpec}
+use Rattle.rules.specs.Put.{idsFit, findIn, entries, isFound, noRemote, entryOf, knownType, knownAction, allKnown, goodEntry, goodConfig, goodLength, goodLengths, headOf, tooLong, putAnswer, putState, putSpec}
 use Rattle.rules.specs.Exactly.{Width, Within, OneHas, lookedAt, KnownType, BadEntry, OneUnknown, BadLength, putRules, PutExactly, FoundExactly, FirstEntry}
 use Rattle.types.specs.declared.EntityId.{EntityId}
 use Rattle.types.specs.declared.TransactionSeqNum.{TransactionSeqNum}
 use Rattle.types.specs.declared.Head.{Head}
 use Rattle.types.specs.declared.RemoteEntityConfig.{RemoteEntityConfig}
 use Rattle.types.specs.declared.LocalEntityConfig.{LocalEntityConfig}
-use Rattle.types.specs.declared.Answer.{Answer}
+use Rattle.types.specs.declared.Refusal.the-variants.{AlreadyBusy, BadIdWidth, NoRemoteCfgFound, BadConfig, BadNameLength, SourceFileNotValidUtf8, DestFileNotValidUtf8, PacketLimit}
 use Rattle.rules_pdu.proofs.Round.{widths-exactly, length-encode}
-use Rattle.rules.proofs.Tells.{Tells, Fails, tests, tells-eqb, tells-ltb, fails-leb, fails-not, fails-either, iff-tells, fails-iff, tells-idle}
-use Rattle.rules.proofs.Order.{hits, fails, passes, exactly}
+use Rattle.rules.proofs.Tells.{Tells, Fails, tests, tells-eqb, tells-ltb, fails-leb, fails-not, never, tells-not, tells-denied, fails-either, iff-tells, fails-iff, tells-idle}
+use Rattle.rules.proofs.Order.{line, passes, exactly}
+use Rattle.rules.proofs.Outcomes.{answer-by}
 use Rattle.rules_leaves.proofs.Utf8.{utf8-exactly}
 
 pub tells-width : (w : ℕ) → Tells (goodWidth w) (Width w)
@@ -44,7 +43,7 @@ fails-ids a b n = search (tests, tells-fits) depth 8
 -- a search that stops before the end has found
 tells-findIn : (es : List RemoteEntityConfig) (v : ℕ) → Tells (ltb (findIn es v) (length es)) (OneHas v es)
 unfolding findIn
-tells-findIn [] v = record { yes = λ e. absurd (false≢true e); no = λ e h. h }
+tells-findIn [] v = never
 tells-findIn (e ∷ es) v = go (tells-findIn es v) (eqb (e .id .1) v) (tells-eqb (e .id .1) v)
   where
     go : Tells (ltb (findIn es v) (length es)) (OneHas v es) → (b : Bool) → Tells b (e .id .1 ≡ v)
@@ -93,21 +92,20 @@ unfolding tooLong pduLength
 tells-long h e closure type n source destination = rw (length-encode h (metadata closure type n source destination)) (tells-ltb _ _)
 
 pub put-exactly : PutExactly
-unfolding putSpec putAnswer entryAnswer
+unfolding putSpec putAnswer
 put-exactly s c q source destination S =
     let v = q .destination .1 in
     let e = entryOf c v in
-    let h = headOf c e q (s .number) S in
-    let no : Answer → ℕ = λ a. answerNo (byAnswer s (putState s c q source destination S) a .answer) in
-    exactly (putRules s c q source destination S) _ refl
-    (fails no (isIdle (s .step)) _ _ 1 _ _ (fails-not (tells-idle (s .step))) refl
-    (λ e₁. fails no (idsFit (c .id) (q .destination) (s .number)) _ _ 2 _ _ (fails-ids (c .id) (q .destination) (s .number)) refl
-    (λ e₂. fails no (isFound c v) _ _ 3 _ _ (fails-found c v) refl
-    (λ e₃. fails no (goodConfig e (c .actions)) _ _ 4 _ _ (fails-config e (c .actions)) refl
-    (λ e₄. fails no (goodLengths (length source) (length destination)) _ _ 5 _ _ (fails-lengths source destination) refl
-    (λ e₅. fails no (isUtf8 source) _ _ 6 _ _ (fails-utf8 source) refl
-    (λ e₆. fails no (isUtf8 destination) _ _ 7 _ _ (fails-utf8 destination) refl
-    (λ e₇. hits no (tooLong h e source destination) _ _ 8 _ _ (tells-long h e _ _ S source destination) refl (λ e₈. passes)))))))))
+    rw (answer-by s (putState s c q source destination S) (putAnswer s c q source destination S))
+    (exactly (putRules s c q source destination S) _ refl
+    (line AlreadyBusy _ _ _ _ (tells-not (tells-idle (s .step)))
+    (λ _. line BadIdWidth _ _ _ _ (tells-denied (fails-ids (c .id) (q .destination) (s .number)))
+    (λ _. line NoRemoteCfgFound _ _ _ _ (tells-denied (fails-found c v))
+    (λ _. line BadConfig _ _ _ _ (tells-denied (fails-config e (c .actions)))
+    (λ _. line BadNameLength _ _ _ _ (tells-denied (fails-lengths source destination))
+    (λ _. line SourceFileNotValidUtf8 _ _ _ _ (tells-denied (fails-utf8 source))
+    (λ _. line DestFileNotValidUtf8 _ _ _ _ (tells-denied (fails-utf8 destination))
+    (λ _. line PacketLimit _ _ _ _ (tells-long (headOf c e q (s .number) S) e _ _ S source destination) (λ _. passes))))))))))
 
 -- a search that finds stands at the first
 first-in : (es : List RemoteEntityConfig) (v : ℕ) → ltb (findIn es v) (length es) ≡ true

@@ -1,7 +1,7 @@
 -- A NAK's requests are answered whole, also after the EOF. `Loose` is what holds of the handler from an accepted put on, until a cancel, a reset or
 -- the next put; while something is owed and no other call is accepted, each step takes the head of what is owed.
 -- Assumes nothing.
-use mathlib.Core.Path.{_≡_, refl, sym, ap, _∙_}
+use mathlib.Core.Path.{_≡_, refl, sym, ap, _∙_, subst}
 use mathlib.Core.Logic.{_⊎_, inl, inr}
 use mathlib.Core.Bool.{Bool, true, false, true≢false}
 use mathlib.Core.List.{List, [], _∷_, _++_, map, flatMap}
@@ -15,10 +15,11 @@ use borrow.Author.Tests.{ltb-true, ltb-false}
 use Rattle.basis.specs.Pick.{pick}
 use Rattle.basis.proofs.Pick.{cases}
 use Rattle.rules_pdu.specs.Decoding.{decode}
+use Rattle.rules.specs.Refusals.{refused, accepted}
 use Rattle.rules.specs.States.{isIdle, withQueue, emptyQueue, idle}
-use Rattle.rules.specs.Queues.{oldest, served}
+use Rattle.rules.specs.Queues.{pushAll, oldest, served}
 use Rattle.rules.specs.Put.{putSpec}
-use Rattle.rules.specs.Deliver.{refused, accepted, nakOf, verdictOf, byVerdict, movedBy, asked, requestsIn, deliverSpec}
+use Rattle.rules.specs.Deliver.{verdictOf, byVerdict, movedBy, asked, requestsIn, deliverSpec, isRefuse}
 use Rattle.rules.specs.Step.{actionFor, faultDue, ackExpired, checkExpired, eofOwed, dueAt, dueOf, sendingOf, repairOf, nextLength, afterCancelEof, afterMetadata, afterData, afterEof, afterOf, changed, performed, stepSpec}
 use Rattle.rules.specs.Tiles.{answers}
 use Rattle.rules.specs.Runs.{Call, put, deliver, step, cancel, reset, Shown, turned, began, took, went, ended, after, unless, shows, trace, behind, LendsIn, Lends, requests, isStep, stepCount, emitted, NoPut, NoEnd, StepsOnly}
@@ -41,13 +42,13 @@ use Rattle.types.specs.declared.Due.{Due}
 use Rattle.types.specs.declared.Due.the-variants.{CancelEof, Repair, Metadata, Data, NoErrorEof, EofAgain, FaultCancel, FaultIgnore, FaultAbandon, Close, Nothing}
 use Rattle.types.specs.declared.Sending.{Sending}
 use Rattle.types.specs.declared.Refusal.{Refusal}
-use Rattle.types.specs.declared.Refusal.the-variants.{UnexpectedPdu}
 use Rattle.types.specs.declared.Answer.the-variants.{Accepted}
 use Rattle.types.specs.declared.Done.{Done}
 use Rattle.types.specs.declared.Stepped.{Stepped}
+use Rattle.rules.proofs.Tells.{neither}
 use Rattle.rules.proofs.Tiles.{length-answers}
 use Rattle.rules.proofs.Pending.{pending-none, Orderly, orderly-empty, orderly-more, served-answers, orderly-served}
-use Rattle.rules.proofs.Outcomes.{differ, put-by, cancel-by, delivered-by, Naks, nak-adds}
+use Rattle.rules.proofs.Outcomes.{differ, put-by, cancel-by, delivered-by, nak-adds, Taken}
 use Rattle.rules.proofs.Emits.{bytesOf, Sends, StepShows, step-shows}
 use Rattle.rules.proofs.Hold.{Inv, sent-le, owedBy, none-owed, not-idle, small-repair, small-some}
 use Rattle.rules.proofs.Stream.{Carries, all-read}
@@ -94,47 +95,49 @@ data Heeds (w : Transfer) (s : State) (rs : List SegmentRequest) : Done → Type
   others : (t : State) → rs ≡ [] → Loose w t → Heeds w s rs (accepted t)
 
 module _ (w : Transfer) (pos : 0 < w .segment) (s : State) (b : Busy w s) (bytes : List ℕ) (f : Frame) where
-  nak-heeds : (rs : List SegmentRequest) → Heeds w s rs (nakOf s rs)
-  nak-heeds rs = go (nakOf s rs) (nak-adds (w .segment) (length (w .file)) s pos (b .orderly) (b .progress) rs)
-    where
-      go : (r : Done) → Naks (w .segment) (length (w .file)) s rs r → Heeds w s rs r
-      go r (Naks.turns n) = turns n
-      go r (Naks.adds q c a v o) =
-          adds (withQueue s q) c a (record { sends = b .sends; orderly = o; progress = b .progress; awake = b .awake })
+  nak-heeds : (rs : List SegmentRequest) (n : ℕ) → Taken s rs (Nak n) → Heeds w s rs (accepted (withQueue s (pushAll (s .queue) rs)))
+  nak-heeds rs n t =
+      let a = nak-adds (w .segment) (length (w .file)) s pos (b .orderly) (b .progress) rs (Nak n) t in
+      adds (withQueue s (pushAll (s .queue) rs)) (neither (s .fixed .head .unacknowledged) (s .marks .cancelled) (t .unbarred) .1) (a .0)
+      (record { sends = b .sends; orderly = a .2; progress = b .progress; awake = b .awake })
 
   -- by the table: a PDU without requests, and a NAK
-  other-heeds : (m : Meaning) → asked bytes f m ≡ [] → Loose w (movedBy s m) → (v : Verdict) → Heeds w s (asked bytes f m) (byVerdict s bytes f m v)
-  other-heeds m e l Enqueue = nak-heeds (asked bytes f m)
-  other-heeds m e l Move = others (movedBy s m) e l
-  other-heeds m e l Refuse = turns UnexpectedPdu
-  other-heeds m e l NoEffect = others s e (works b)
+  other-heeds : (m : Meaning) → Loose w (movedBy s m) → (v : Verdict) → Heeds w s [] (accepted (byVerdict s [] m v))
+  unfolding pushAll
+  other-heeds m l Enqueue = others s refl (works b)
+  other-heeds m l Move = others (movedBy s m) refl l
+  other-heeds m l Refuse = others s refl (works b)
+  other-heeds m l NoEffect = others s refl (works b)
 
-  by-table : (k : TransactionStep) (m : Meaning) → Heeds w s (asked bytes f m) (byVerdict s bytes f m (verdictOf k m))
+  by-table : (k : TransactionStep) (m : Meaning) → isRefuse (verdictOf k m) ≡ false → Taken s (asked bytes f m) m
+      → Heeds w s (asked bytes f m) (accepted (byVerdict s (asked bytes f m) m (verdictOf k m)))
   unfolding verdictOf
-  by-table k (Finished p) = other-heeds (Finished p) refl (no-queue w s b Closing (s .file) _ refl (b .progress)) (verdictOf k (Finished p))
-  by-table k AckOfEof = other-heeds AckOfEof refl (same-queue w s b WaitingForFinished (s .file) (s .marks) refl (b .progress)) (verdictOf k AckOfEof)
-  by-table k (KeepAlive p) = other-heeds (KeepAlive p) refl (works b) (verdictOf k (KeepAlive p))
-  by-table Idle (Nak n) = turns UnexpectedPdu
-  by-table SendingMetadata (Nak n) = turns UnexpectedPdu
-  by-table SendingFileData (Nak n) = nak-heeds (requestsIn bytes f n)
-  by-table SendingEof (Nak n) = nak-heeds (requestsIn bytes f n)
-  by-table WaitingForEofAck (Nak n) = nak-heeds (requestsIn bytes f n)
-  by-table WaitingForFinished (Nak n) = nak-heeds (requestsIn bytes f n)
-  by-table Closing (Nak n) = turns UnexpectedPdu
+  by-table k (Finished p) x t = other-heeds (Finished p) (no-queue w s b Closing (s .file) _ refl (b .progress)) (verdictOf k (Finished p))
+  by-table k AckOfEof x t = other-heeds AckOfEof (same-queue w s b WaitingForFinished (s .file) (s .marks) refl (b .progress)) (verdictOf k AckOfEof)
+  by-table k (KeepAlive p) x t = other-heeds (KeepAlive p) (works b) (verdictOf k (KeepAlive p))
+  by-table Idle (Nak n) x t = absurd (true≢false x)
+  by-table SendingMetadata (Nak n) x t = absurd (true≢false x)
+  by-table SendingFileData (Nak n) x t = nak-heeds (requestsIn bytes f n) n t
+  by-table SendingEof (Nak n) x t = nak-heeds (requestsIn bytes f n) n t
+  by-table WaitingForEofAck (Nak n) x t = nak-heeds (requestsIn bytes f n) n t
+  by-table WaitingForFinished (Nak n) x t = nak-heeds (requestsIn bytes f n) n t
+  by-table Closing (Nak n) x t = absurd (true≢false x)
 
--- a handler that is Idle takes no NAK
-idle-table : (w : Transfer) (n : TransactionSeqNum) (bytes : List ℕ) (f : Frame) (m : Meaning) → Heeds w (idle n) (asked bytes f m) (byVerdict (idle n) bytes f m (verdictOf Idle m))
+-- a handler that is Idle takes no NAK, and no other PDU moves it
+idle-table : (w : Transfer) (n : TransactionSeqNum) (bytes : List ℕ) (f : Frame) (m : Meaning) → isRefuse (verdictOf Idle m) ≡ false
+    → Heeds w (idle n) (asked bytes f m) (accepted (byVerdict (idle n) (asked bytes f m) m (verdictOf Idle m)))
 unfolding verdictOf
-idle-table w n bytes f (Finished p) = others (idle n) refl (rests n refl)
-idle-table w n bytes f AckOfEof = turns UnexpectedPdu
-idle-table w n bytes f (Nak k) = turns UnexpectedPdu
-idle-table w n bytes f (KeepAlive p) = others (idle n) refl (rests n refl)
+idle-table w n bytes f (Finished p) x = others (idle n) refl (rests n refl)
+idle-table w n bytes f AckOfEof x = others (idle n) refl (rests n refl)
+idle-table w n bytes f (Nak k) x = absurd (true≢false x)
+idle-table w n bytes f (KeepAlive p) x = others (idle n) refl (rests n refl)
 
 module _ (w : Transfer) (pos : 0 < w .segment) (s : State) where
-  table-heeds : Loose w s → (bytes : List ℕ) (f : Frame) (m : Meaning) → Heeds w s (asked bytes f m) (byVerdict s bytes f m (verdictOf (s .step) m))
+  table-heeds : Loose w s → (bytes : List ℕ) (f : Frame) (m : Meaning) → Taken s (asked bytes f m) m
+      → Heeds w s (asked bytes f m) (accepted (byVerdict s (asked bytes f m) m (verdictOf (s .step) m)))
   unfolding idle
-  table-heeds (rests n e) bytes f m = rw e (idle-table w n bytes f m)
-  table-heeds (works b) bytes f m = by-table w pos s b bytes f (s .step) m
+  table-heeds (rests n e) bytes f m t = rw e (idle-table w n bytes f m (subst (λ (u : State). isRefuse (verdictOf (u .step) m) ≡ false) e (t .expected)))
+  table-heeds (works b) bytes f m t = by-table w pos s b bytes f (s .step) m (t .expected) t
 
   deliver-heeds : Loose w s → (bytes : List ℕ) → Heeds w s (requests bytes) (deliverSpec s bytes)
   deliver-heeds l bytes = delivered-by s (Heeds w s) (λ rs r. turns r) (table-heeds l) bytes

@@ -1,10 +1,12 @@
 -- The table of steps, read by its columns: at which steps a kind of PDU is queued, moves, is refused or has no effect.
 -- Assumes nothing.
-use mathlib.Core.Path.{_≡_, refl}
+use mathlib.Core.Path.{_≡_, refl, ap, _∙_}
+use mathlib.Core.Bool.{Bool, true, false}
 use Prim.Native.Nat.{ℕ}
 use lib.Dec.{eqb}
-use Rattle.basis.specs.Pick.{pick}
-use Rattle.rules.specs.Deliver.{stepNo, verdictOf}
+use Rattle.basis.specs.Pick.{pick, _and_, _or_, not}
+use Rattle.rules.specs.States.{stepNo}
+use Rattle.rules.specs.Deliver.{verdictOf, isRefuse}
 use Rattle.types.specs.declared.FinishedParams.{FinishedParams}
 use Rattle.types.specs.declared.Meaning.the-variants.{Finished, AckOfEof, Nak, KeepAlive}
 use Rattle.types.specs.declared.TransactionStep.{TransactionStep}
@@ -52,3 +54,29 @@ verdict-keep SendingEof p = refl
 verdict-keep WaitingForEofAck p = refl
 verdict-keep WaitingForFinished p = refl
 verdict-keep Closing p = refl
+
+-- ---- what is refused
+
+pub refuses-nak : (k : TransactionStep) (n : ℕ) → isRefuse (verdictOf k (Nak n)) ≡ (eqb (stepNo k) 0 or eqb (stepNo k) 1 or eqb (stepNo k) 6)
+refuses-nak k n = ap isRefuse (verdict-nak k n) ∙ go (eqb (stepNo k) 0) (eqb (stepNo k) 1) (eqb (stepNo k) 6)
+  where
+    go : (a b c : Bool) → isRefuse (pick a Refuse (pick b Refuse (pick c Refuse Enqueue))) ≡ (a or b or c)
+    go true b c = refl
+    go false true c = refl
+    go false false true = refl
+    go false false false = refl
+
+pub refuses-ack : (k : TransactionStep) → isRefuse (verdictOf k AckOfEof) ≡ not (eqb (stepNo k) 4)
+refuses-ack k = ap isRefuse (verdict-ack k) ∙ go (eqb (stepNo k) 4)
+  where
+    go : (a : Bool) → isRefuse (pick a Move Refuse) ≡ not a
+    go true = refl
+    go false = refl
+
+pub refuses-finished : (k : TransactionStep) (p : FinishedParams) → isRefuse (verdictOf k (Finished p)) ≡ (not (eqb (stepNo k) 0) and not (eqb (stepNo k) 5))
+refuses-finished k p = ap isRefuse (verdict-finished k p) ∙ go (eqb (stepNo k) 0) (eqb (stepNo k) 5)
+  where
+    go : (a b : Bool) → isRefuse (pick a NoEffect (pick b Move Refuse)) ≡ (not a and not b)
+    go true b = refl
+    go false true = refl
+    go false false = refl

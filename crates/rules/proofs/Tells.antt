@@ -10,8 +10,7 @@ use borrow.Author.Tests.{ltb-true, ltb-false, leb-true, leb-false, eqb-true, eqb
 use lib.Dec.{eqb, leb, ltb}
 use lib.ListN.{getD}
 use Rattle.basis.specs.Pick.{pick, _and_, _or_, not}
-use Rattle.rules.specs.States.{isIdle}
-use Rattle.rules.specs.Deliver.{stepNo}
+use Rattle.rules.specs.States.{isIdle, stepNo}
 use Rattle.types.specs.declared.TransactionStep.{TransactionStep}
 use Rattle.types.specs.declared.TransactionStep.the-variants.{Idle, SendingMetadata, SendingFileData, SendingEof, WaitingForEofAck, WaitingForFinished, Closing}
 
@@ -44,8 +43,14 @@ pub fails-flag : (b : Bool) → Fails b (b ≡ false)
 fails-flag true = record { yes = λ e. e; no = λ e f. true≢false f }
 fails-flag false = record { yes = λ e. refl; no = λ e f. false≢true e }
 
+pub never : Tells false ⊥
+never = record { yes = λ e. absurd (false≢true e); no = λ e h. h }
+
 pub fails-not : {b : Bool} {P : Type 0} → Tells b P → Fails b (¬ P)
 fails-not t = record { yes = t .no; no = λ e n. n (t .yes e) }
+
+pub tells-map : {b : Bool} {P Q : Type 0} → (P → Q) → (Q → P) → Tells b P → Tells b Q
+tells-map f g t = record { yes = λ e. f (t .yes e); no = λ e h. t .no e (g h) }
 
 pub fails-map : {b : Bool} {P Q : Type 0} → (P → Q) → (Q → P) → Fails b P → Fails b Q
 fails-map f g t = record { yes = λ e. f (t .yes e); no = λ e h. t .no e (g h) }
@@ -71,11 +76,6 @@ pub fails-either : {b c : Bool} {P Q : Type 0} → Fails b P → Fails c Q → F
 fails-either {b = true} p q = record { yes = λ e. inr (q .yes e); no = λ e. ⊎-elim (p .no refl) (q .no e) }
 fails-either {b = false} p q = record { yes = λ e. inl (p .yes refl); no = λ e. absurd (false≢true e) }
 
--- the first holds, or the second fails
-pub fails-first : {b c : Bool} {P Q : Type 0} → Tells b P → Fails c Q → Fails (pick b false c) (P ⊎ Q)
-fails-first {b = true} p q = record { yes = λ e. inl (p .yes refl); no = λ e. absurd (false≢true e) }
-fails-first {b = false} p q = record { yes = λ e. inr (q .yes e); no = λ e. ⊎-elim (p .no refl) (q .no e) }
-
 -- both fail
 pub fails-both : {b c : Bool} {P Q : Type 0} → Fails b P → Fails c Q → Fails (b or c) (P × Q)
 fails-both {b = true} p q = record { yes = λ e. absurd (true≢false e); no = λ e h. p .no refl (h .0) }
@@ -85,7 +85,12 @@ pub fails-yes : {b : Bool} {P : Type 0} → Tells b P → Fails (not b) P
 fails-yes {b = true} p = record { yes = λ e. p .yes refl; no = λ e. absurd (false≢true e) }
 fails-yes {b = false} p = record { yes = λ e. absurd (true≢false e); no = λ e. p .no refl }
 
-pub ruleset tests = (tells-eqb, tells-ltb, fails-leb, tells-flag, fails-flag, fails-not, tells-both, tells-either, tells-not, fails-either, fails-first, fails-both, fails-yes)
+-- a failing test denied
+pub tells-denied : {b : Bool} {P : Type 0} → Fails b P → Tells (not b) P
+tells-denied {b = true} p = record { yes = λ e. absurd (false≢true e); no = λ e. p .no refl }
+tells-denied {b = false} p = record { yes = λ e. p .yes refl; no = λ e. absurd (true≢false e) }
+
+pub ruleset tests = (tells-eqb, tells-ltb, fails-leb, tells-flag, fails-flag, fails-not, tells-both, tells-either, tells-not, fails-either, fails-both, fails-yes)
 
 -- a test read as an equivalence
 pub tells-iff : {b : Bool} {P : Type 0} → Tells b P → (b ≡ true) ↔ P

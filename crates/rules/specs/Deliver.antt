@@ -1,23 +1,19 @@
 -- Deliver: 20, 21, 23, 22, 24, 25 in this order, or what the table of steps says.
 -- Assumes nothing.
-use mathlib.Core.Path.{_≡_}
 use mathlib.Core.Bool.{Bool, true, false}
 use mathlib.Core.List.{List, [], _∷_}
-use Prim.Native.Nat.{ℕ, _+_, _-_}
+use Prim.Native.Nat.{ℕ, _+_}
 use lib.Dec.{eqb, ltb}
-use lib.ListN.{getD}
-use Rattle.basis.specs.Pick.{pick}
-use Rattle.basis.specs.Bytes.{part}
+use Rattle.basis.specs.Pick.{pick, _and_, _or_, not}
 use Rattle.rules_pdu.specs.Numbers.{F}
-use Rattle.rules_pdu.specs.Reading.{framedIn, bodyOf, requestsFrom}
+use Rattle.rules_pdu.specs.Reading.{headIn, wellFramed, frameIn, bodyIn, bodyOf, requestsFrom}
+use Rattle.rules.specs.Refusals.{_when_, firstOf, byAnswer}
 use Rattle.rules.specs.States.{isIdle, toStep, withQueue, withMarks, settled, told, emptyQueue}
 use Rattle.rules.specs.Queues.{anyInvalid, owing, free, pushAll}
 use Rattle.types.specs.declared.Head.{Head}
 use Rattle.types.specs.declared.Frame.{Frame}
-use Rattle.types.specs.declared.Framed.{Framed}
-use Rattle.types.specs.declared.Framed.the-variants.{Malformed as NoFrame, Whole}
 use Rattle.types.specs.declared.Body.{Body}
-use Rattle.types.specs.declared.Body.the-variants.{Malformed as NoBody, CantProcess, Means}
+use Rattle.types.specs.declared.Body.the-variants.{Malformed as NoPdu, CantProcess, Means}
 use Rattle.types.specs.declared.Meaning.{Meaning}
 use Rattle.types.specs.declared.Meaning.the-variants.{Finished, AckOfEof, Nak, KeepAlive}
 use Rattle.types.specs.declared.SegmentRequest.{SegmentRequest}
@@ -28,71 +24,92 @@ use Rattle.types.specs.declared.TransactionStep.the-variants.{Idle, SendingMeta
 use Rattle.types.specs.declared.Verdict.{Verdict}
 use Rattle.types.specs.declared.Verdict.the-variants.{Enqueue, Move, Refuse, NoEffect}
 use Rattle.types.specs.declared.Row.{Row}
-use Rattle.types.specs.declared.Refusal.{Refusal}
 use Rattle.types.specs.declared.Refusal.the-variants.{Malformed, CantProcessPacketType, UnexpectedPdu, OtherTransaction, InvalidNakPdu, RetransmitFull}
 use Rattle.types.specs.declared.Answer.{Answer}
-use Rattle.types.specs.declared.Answer.the-variants.{Accepted, Refused}
 use Rattle.types.specs.declared.Done.{Done}
 
--- ---- "Answer to a PDU that passed 20, 21 and 23": by row the step; NAK, ACK of EOF, Finished, Keep Alive
+-- ---- what the bytes say
+
+-- no PDU by the layouts, one that can't be processed, or one with a meaning
+unfoldable pub saidIn : List ℕ → Body
+saidIn bytes = pick (wellFramed bytes) (bodyOf (frameIn bytes) (bodyIn bytes)) NoPdu
+
+-- 20 Malformed: "no PDU by the layouts below"
+abbrev pub isMalformed : Body → Bool
+isMalformed NoPdu = true
+isMalformed CantProcess = false
+isMalformed (Means m) = false
+
+-- 21 CantProcessPacketType: "file data, EOF, Prompt, Metadata (bodies unread); ACK of Finished; direction towards the receiver"
+abbrev pub cantProcess : Body → Bool
+cantProcess NoPdu = false
+cantProcess CantProcess = true
+cantProcess (Means m) = false
+
+-- the meaning of a PDU that is neither; 20 and 21 have none that counts
+abbrev pub meaningOf : Body → Meaning
+meaningOf NoPdu = KeepAlive 0
+meaningOf CantProcess = KeepAlive 0
+meaningOf (Means m) = m
+
+-- the requests of a NAK of n pairs, from the delivered bytes: they stand behind the code and the scope
+unfoldable pub requestsIn : List ℕ → Frame → ℕ → List SegmentRequest
+requestsIn bytes f n = requestsFrom n (f .head .large) bytes (f .start + 1 + F (f .head .large) + F (f .head .large))
+
+-- none of any other PDU
+abbrev pub asked : List ℕ → Frame → Meaning → List SegmentRequest
+asked bytes f (Finished p) = []
+asked bytes f AckOfEof = []
+asked bytes f (Nak n) = requestsIn bytes f n
+asked bytes f (KeepAlive p) = []
+
+-- ---- "Answer to a PDU that passed 20, 21 and 23": 22 is Refuse; queue is Enqueue; a step is Move, to the step that `movedBy` says
 
 abbrev pub row : Verdict → Verdict → Verdict → Verdict → Row
 row n a f k = record { nak = n; ack = a; finished = f; keepalive = k }
 
-abbrev pub table : List Row
-table =
-    row Refuse Refuse NoEffect NoEffect
-    ∷ row Refuse Refuse Refuse NoEffect
-    ∷ row Enqueue Refuse Refuse NoEffect
-    ∷ row Enqueue Refuse Refuse NoEffect
-    ∷ row Enqueue Move Refuse NoEffect
-    ∷ row Enqueue Refuse Move NoEffect
-    ∷ row Refuse Refuse Refuse NoEffect
-    ∷ []
-
-abbrev pub stepNo : TransactionStep → ℕ
-stepNo Idle = 0
-stepNo SendingMetadata = 1
-stepNo SendingFileData = 2
-stepNo SendingEof = 3
-stepNo WaitingForEofAck = 4
-stepNo WaitingForFinished = 5
-stepNo Closing = 6
+-- columns: NAK, ACK of EOF, Finished, Keep Alive
+abbrev pub rowOf : TransactionStep → Row
+rowOf Idle = row Refuse Refuse NoEffect NoEffect
+rowOf SendingFileData = row Enqueue Refuse Refuse NoEffect
+rowOf SendingEof = row Enqueue Refuse Refuse NoEffect
+rowOf WaitingForEofAck = row Enqueue Move Refuse NoEffect
+rowOf WaitingForFinished = row Enqueue Refuse Move NoEffect
+rowOf SendingMetadata = row Refuse Refuse Refuse NoEffect
+rowOf Closing = row Refuse Refuse Refuse NoEffect
 
 abbrev pub column : Meaning → Row → Verdict
-column (Finished f) r = r .finished
-column AckOfEof r = r .ack
 column (Nak n) r = r .nak
+column AckOfEof r = r .ack
+column (Finished p) r = r .finished
 column (KeepAlive p) r = r .keepalive
 
 unfoldable pub verdictOf : TransactionStep → Meaning → Verdict
-verdictOf k m = column m (getD table (stepNo k) (row Refuse Refuse Refuse Refuse))
+verdictOf k m = column m (rowOf k)
 
--- ---- what a delivery does
-
-abbrev pub refused : State → Refusal → Done
-refused s r = record { answer = Refused r; state = s }
-
-abbrev pub accepted : State → Done
-accepted s = record { answer = Accepted; state = s }
+-- ---- the conditions behind 20 and 21
 
 -- 23 OtherTransaction: "not Idle, and an id or number differs in value"
 unfoldable pub sameTransaction : Head → Head → Bool
-sameTransaction a b =
-    pick (eqb (a .source .1) (b .source .1)) (pick (eqb (a .number .1) (b .number .1)) (eqb (a .destination .1) (b .destination .1)) false) false
+sameTransaction a b = eqb (a .source .1) (b .source .1) and eqb (a .number .1) (b .number .1) and eqb (a .destination .1) (b .destination .1)
 
--- "A NAK in unacknowledged mode or after cancellation is 22."
-unfoldable pub takesNak : State → Bool
-takesNak s = pick (s .fixed .head .unacknowledged) false (pick (s .marks .cancelled) false true)
+abbrev pub isRefuse : Verdict → Bool
+isRefuse Enqueue = false
+isRefuse Move = false
+isRefuse Refuse = true
+isRefuse NoEffect = false
 
--- "A NAK is taken whole or refused whole."
-unfoldable pub nakOf : State → List SegmentRequest → Done
-nakOf s rs =
-    pick (takesNak s)
-    (pick (anyInvalid (s .file .progress) rs) (refused s InvalidNakPdu)
-    (pick (ltb (free (s .queue)) (owing rs)) (refused s RetransmitFull)
-    (accepted (withQueue s (pushAll (s .queue) rs)))))
-    (refused s UnexpectedPdu)
+abbrev pub isNak : Meaning → Bool
+isNak (Nak n) = true
+isNak AckOfEof = false
+isNak (Finished p) = false
+isNak (KeepAlive p) = false
+
+-- 22 UnexpectedPdu: "the step table says so"; "A NAK in unacknowledged mode or after cancellation is 22."
+unfoldable pub unexpected : State → Meaning → Bool
+unexpected s m = isRefuse (verdictOf (s .step) m) or isNak m and (s .fixed .head .unacknowledged or s .marks .cancelled)
+
+-- ---- what an accepted delivery leaves
 
 -- "Closing; queue and owed EOF dropped"
 abbrev pub finishedOf : State → FinishedParams → State
@@ -104,36 +121,32 @@ movedBy s AckOfEof = toStep s WaitingForFinished
 movedBy s (Nak n) = s
 movedBy s (KeepAlive p) = s
 
--- the requests of a NAK of n pairs, from the delivered bytes: they stand behind the code and the scope
-unfoldable pub requestsIn : List ℕ → Frame → ℕ → List SegmentRequest
-requestsIn bytes f n = requestsFrom n (f .head .large) bytes (f .start + 1 + F (f .head .large) + F (f .head .large))
+-- by what the table says of a PDU with the requests rs; "A NAK is taken whole"
+abbrev pub byVerdict : State → List SegmentRequest → Meaning → Verdict → State
+byVerdict s rs m Enqueue = withQueue s (pushAll (s .queue) rs)
+byVerdict s rs m Move = movedBy s m
+byVerdict s rs m Refuse = s
+byVerdict s rs m NoEffect = s
 
-abbrev pub asked : List ℕ → Frame → Meaning → List SegmentRequest
-asked bytes f (Finished p) = []
-asked bytes f AckOfEof = []
-asked bytes f (Nak n) = requestsIn bytes f n
-asked bytes f (KeepAlive p) = []
+-- ---- the call, over what its bytes said: 20, 21, 23, 22, 24, 25 in this order
 
-abbrev pub byVerdict : State → List ℕ → Frame → Meaning → Verdict → Done
-byVerdict s bytes f m Enqueue = nakOf s (asked bytes f m)
-byVerdict s bytes f m Move = accepted (movedBy s m)
-byVerdict s bytes f m Refuse = refused s UnexpectedPdu
-byVerdict s bytes f m NoEffect = accepted s
+unfoldable pub deliverAnswer : State → List ℕ → Body → Answer
+deliverAnswer s bytes said =
+    let m = meaningOf said in
+    let rs = asked bytes (frameIn bytes) m in
+    firstOf
+    ((Malformed when isMalformed said)
+    ∷ (CantProcessPacketType when cantProcess said)
+    ∷ (OtherTransaction when not (isIdle (s .step)) and not (sameTransaction (s .fixed .head) (headIn bytes)))
+    ∷ (UnexpectedPdu when unexpected s m)
+    ∷ (InvalidNakPdu when anyInvalid (s .file .progress) rs)
+    ∷ (RetransmitFull when ltb (free (s .queue)) (owing rs))
+    ∷ [])
 
-unfoldable pub heard : State → List ℕ → Frame → Meaning → Done
-heard s bytes f m =
-    pick (isIdle (s .step)) (byVerdict s bytes f m (verdictOf (s .step) m))
-    (pick (sameTransaction (s .fixed .head) (f .head)) (byVerdict s bytes f m (verdictOf (s .step) m))
-    (refused s OtherTransaction))
-
-abbrev pub byBody : State → List ℕ → Frame → Body → Done
-byBody s bytes f NoBody = refused s Malformed
-byBody s bytes f CantProcess = refused s CantProcessPacketType
-byBody s bytes f (Means m) = heard s bytes f m
-
-abbrev pub byFrame : State → List ℕ → Framed → Done
-byFrame s bytes NoFrame = refused s Malformed
-byFrame s bytes (Whole f) = byBody s bytes f (bodyOf f (part bytes (f .start) (f .end - f .start)))
+unfoldable pub deliverState : State → List ℕ → Body → State
+deliverState s bytes said =
+    let m = meaningOf said in
+    byVerdict s (asked bytes (frameIn bytes) m) m (verdictOf (s .step) m)
 
 unfoldable pub deliverSpec : State → List ℕ → Done
-deliverSpec s bytes = byFrame s bytes (framedIn bytes)
+deliverSpec s bytes = byAnswer s (deliverState s bytes (saidIn bytes)) (deliverAnswer s bytes (saidIn bytes))

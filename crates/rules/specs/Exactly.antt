@@ -42,14 +42,19 @@ infix 0 _when_
 pub data Rule : Type 1 where
   _when_ : (number : ℕ) → (holds : Type 0) → Rule
 
--- each number is given exactly if its condition holds and none before it does; 0, accepted, exactly if none does.
--- `none` says that no condition before these lines holds
-abbrev pub After : Type 0 → List Rule → ℕ → Type 0
-After none [] n = (n ≡ 0) ↔ none
-After none ((k when holds) ∷ rs) n = ((n ≡ k) ↔ (holds × none)) × After ((¬ holds) × none) rs n
+-- no condition of these lines holds
+abbrev pub NoneOf : List Rule → Type 0
+NoneOf [] = Unit {0}
+NoneOf ((k when holds) ∷ rs) = (¬ holds) × NoneOf rs
+
+-- n is the number that these lines give, behind the earlier ones: each number exactly if its condition holds and none before it does; 0, accepted,
+-- exactly if none does
+abbrev pub After : (earlier : List Rule) → List Rule → ℕ → Type 0
+After earlier [] n = (n ≡ 0) ↔ NoneOf earlier
+After earlier ((k when holds) ∷ rs) n = ((n ≡ k) ↔ (holds × NoneOf earlier)) × After ((k when holds) ∷ earlier) rs n
 
 abbrev pub Exactly : List Rule → ℕ → Type 0
-Exactly rs n = After (Unit {0}) rs n
+Exactly rs n = After [] rs n
 
 -- ---- put: 1 to 8
 
@@ -207,7 +212,7 @@ OwesExactly = (r : SegmentRequest) → (owes r ≡ true) ↔ (((r .start ≡ 0) 
 
 -- so many of these requests owe a PDU
 pub data Counted : List SegmentRequest → ℕ → Type 0 where
-  none : Counted [] 0
+  empty : Counted [] 0
   one : (r : SegmentRequest) (rs : List SegmentRequest) (n : ℕ) → owes r ≡ true → Counted rs n → Counted (r ∷ rs) (suc n)
   other : (r : SegmentRequest) (rs : List SegmentRequest) (n : ℕ) → owes r ≡ false → Counted rs n → Counted (r ∷ rs) n
 

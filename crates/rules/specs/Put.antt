@@ -6,10 +6,11 @@ use mathlib.Core.List.{List, [], _∷_, _++_}
 use Prim.Native.Nat.{ℕ, suc, _-_, min}
 use lib.Dec.{eqb, leb, ltb}
 use lib.ListN.{length, getD, take, replicate}
-use Rattle.basis.specs.Pick.{pick}
+use Rattle.basis.specs.Pick.{pick, _and_, _or_, not}
 use Rattle.rules_pdu.specs.Numbers.{fits, larger, widened, numberAfter, isLarge, segmentLength}
 use Rattle.rules_leaves.specs.Utf8.{isUtf8}
 use Rattle.rules_pdu.specs.Layout.{metadata, pduLength}
+use Rattle.rules.specs.Refusals.{_when_, firstOf, byAnswer}
 use Rattle.rules.specs.States.{isIdle, emptyQueue, noFile, noMarks}
 use Rattle.types.specs.declared.EntityId.{EntityId}
 use Rattle.types.specs.declared.TransactionSeqNum.{TransactionSeqNum}
@@ -23,17 +24,15 @@ use Rattle.types.specs.declared.Fixed.{Fixed}
 use Rattle.types.specs.declared.Names.{Names}
 use Rattle.types.specs.declared.State.{State}
 use Rattle.types.specs.declared.TransactionStep.the-variants.{SendingMetadata}
-use Rattle.types.specs.declared.Refusal.{Refusal}
 use Rattle.types.specs.declared.Refusal.the-variants.{AlreadyBusy, BadIdWidth, NoRemoteCfgFound, BadConfig, BadNameLength, SourceFileNotValidUtf8, DestFileNotValidUtf8, PacketLimit}
 use Rattle.types.specs.declared.Answer.{Answer}
-use Rattle.types.specs.declared.Answer.the-variants.{Accepted, Refused}
 use Rattle.types.specs.declared.Done.{Done}
 
 -- ---- the conditions, one after another
 
 -- 2 BadIdWidth: "local id, destination id or sequence number outside the rule"
 unfoldable pub idsFit : EntityId → EntityId → TransactionSeqNum → Bool
-idsFit a b n = pick (fits (a .0) (a .1)) (pick (fits (b .0) (b .1)) (fits (n .0) (n .1)) false) false
+idsFit local destination number = fits (local .0) (local .1) and fits (destination .0) (destination .1) and fits (number .0) (number .1)
 
 -- 3 NoRemoteCfgFound: "the first whose id value equals the destination's is used"; the place of it among these entries, or their number
 unfoldable pub findIn : List RemoteEntityConfig → ℕ → ℕ
@@ -56,27 +55,27 @@ entryOf c v = getD (c .remotes) (findIn (entries c) v) noRemote
 
 -- 4 BadConfig: "packet maximum > 4,096, segment maximum 0 or checksum type not 0, 2, 3, 15; or a fault action not 1 (cancel), 3 (ignore), 4 (abandon)"
 unfoldable pub knownType : ℕ → Bool
-knownType t = pick (eqb t 0) true (pick (eqb t 2) true (pick (eqb t 3) true (eqb t 15)))
+knownType t = eqb t 0 or eqb t 2 or eqb t 3 or eqb t 15
 
 unfoldable pub knownAction : ℕ → Bool
-knownAction a = pick (eqb a 1) true (pick (eqb a 3) true (eqb a 4))
+knownAction a = eqb a 1 or eqb a 3 or eqb a 4
 
 unfoldable pub allKnown : List ℕ → Bool
 allKnown [] = true
-allKnown (a ∷ l) = pick (knownAction a) (allKnown l) false
+allKnown (a ∷ l) = knownAction a and allKnown l
 
 unfoldable pub goodEntry : RemoteEntityConfig → Bool
-goodEntry e = pick (ltb 4096 (e .maxpacket)) false (pick (eqb (e .maxsegment) 0) false (knownType (e .checksum)))
+goodEntry e = not (ltb 4096 (e .maxpacket)) and not (eqb (e .maxsegment) 0) and knownType (e .checksum)
 
 unfoldable pub goodConfig : RemoteEntityConfig → List ℕ → Bool
-goodConfig e actions = pick (goodEntry e) (allKnown actions) false
+goodConfig e actions = goodEntry e and allKnown actions
 
 -- 5 BadNameLength: "0 or > 255", of either name
 unfoldable pub goodLength : ℕ → Bool
-goodLength n = pick (eqb n 0) false (leb n 255)
+goodLength n = not (eqb n 0) and leb n 255
 
 unfoldable pub goodLengths : ℕ → ℕ → Bool
-goodLengths n m = pick (goodLength n) (goodLength m) false
+goodLengths n m = goodLength n and goodLength m
 
 -- ---- what an accepted put makes
 
@@ -135,36 +134,26 @@ unfoldable pub started : TransactionSeqNum → Fixed → Names → State
 started n f names =
     record { number = numberAfter n; step = SendingMetadata; fixed = f; names = names; file = noFile; queue = emptyQueue; marks = noMarks }
 
--- ---- the call
-
--- 4 to 8, over the entry found and the head it gives
-unfoldable pub entryAnswer : RemoteEntityConfig → List ℕ → Head → List ℕ → List ℕ → Answer
-entryAnswer e actions h source destination =
-    pick (goodConfig e actions)
-    (pick (goodLengths (length source) (length destination))
-    (pick (isUtf8 source)
-    (pick (isUtf8 destination)
-    (pick (tooLong h e source destination) (Refused PacketLimit) Accepted)
-    (Refused DestFileNotValidUtf8)) (Refused SourceFileNotValidUtf8)) (Refused BadNameLength)) (Refused BadConfig)
+-- ---- the call: 1 to 8 in checking order
 
 unfoldable pub putAnswer : State → LocalEntityConfig → PutRequest → List ℕ → List ℕ → ℕ → Answer
 putAnswer s c q source destination S =
     let e = entryOf c (q .destination .1) in
-    pick (isIdle (s .step))
-    (pick (idsFit (c .id) (q .destination) (s .number))
-    (pick (isFound c (q .destination .1))
-    (entryAnswer e (c .actions) (headOf c e q (s .number) S) source destination)
-    (Refused NoRemoteCfgFound)) (Refused BadIdWidth)) (Refused AlreadyBusy)
+    firstOf
+    ((AlreadyBusy when not (isIdle (s .step)))
+    ∷ (BadIdWidth when not (idsFit (c .id) (q .destination) (s .number)))
+    ∷ (NoRemoteCfgFound when not (isFound c (q .destination .1)))
+    ∷ (BadConfig when not (goodConfig e (c .actions)))
+    ∷ (BadNameLength when not (goodLengths (length source) (length destination)))
+    ∷ (SourceFileNotValidUtf8 when not (isUtf8 source))
+    ∷ (DestFileNotValidUtf8 when not (isUtf8 destination))
+    ∷ (PacketLimit when tooLong (headOf c e q (s .number) S) e source destination)
+    ∷ [])
 
 unfoldable pub putState : State → LocalEntityConfig → PutRequest → List ℕ → List ℕ → ℕ → State
 putState s c q source destination S =
     let e = entryOf c (q .destination .1) in
     started (s .number) (fixedOf c e q (headOf c e q (s .number) S) S) (namesOf source destination)
-
--- "A refusal returns its number and changes nothing."
-abbrev pub byAnswer : State → State → Answer → Done
-byAnswer s t Accepted = record { answer = Accepted; state = t }
-byAnswer s t (Refused r) = record { answer = Refused r; state = s }
 
 unfoldable pub putSpec : State → LocalEntityConfig → PutRequest → List ℕ → List ℕ → ℕ → Done
 putSpec s c q source destination S = byAnswer s (putState s c q source destination S) (putAnswer s c q source destination S)

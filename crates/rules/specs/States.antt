@@ -27,6 +27,16 @@ isIdle WaitingForEofAck = false
 isIdle WaitingForFinished = false
 isIdle Closing = false
 
+-- a step's number, where the code and the handler's memory go by it
+abbrev pub stepNo : TransactionStep → ℕ
+stepNo Idle = 0
+stepNo SendingMetadata = 1
+stepNo SendingFileData = 2
+stepNo SendingEof = 3
+stepNo WaitingForEofAck = 4
+stepNo WaitingForFinished = 5
+stepNo Closing = 6
+
 -- ---- one group anew
 
 abbrev pub toStep : State → TransactionStep → State

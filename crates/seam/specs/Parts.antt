@@ -4,7 +4,7 @@ use mathlib.Core.List.{List}
 use Prim.Native.Nat.{ℕ}
 use Rattle.rules.specs.States.{emptyQueue, idle}
 use Rattle.rules.specs.Queues.{served}
-use Rattle.rules.specs.Deliver.{stepNo}
+use Rattle.rules.specs.States.{stepNo}
 use Rattle.source_deliver.specs.Effects.{queueBy}
 use Rattle.source_deliver.specs.declared.effect.Effect.{Effect}
 use Rattle.source_step.specs.declared.bulk.Bulk.{Bulk}

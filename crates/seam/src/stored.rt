@@ -1,6 +1,6 @@
 // The state stored in the memory, group by group.
 ghost use mathlib.Core.Path.{_≡_};
-ghost use Rattle.rules.specs.Deliver.{stepNo};
+ghost use Rattle.rules.specs.States.{stepNo};
 ghost use Rattle.seam_rules.specs.Memory.{fixedStored, marksStored, heldOf};
 use seam_rules::memory::Config;
 use seam_rules::memory::Handler;

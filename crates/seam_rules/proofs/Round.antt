@@ -4,7 +4,7 @@ use mathlib.Core.Path.{_≡_, refl}
 use mathlib.Core.Bool.{Bool, true, false}
 use lib.Dec.{eqb}
 use Rattle.basis.specs.Pick.{pick, flag}
-use Rattle.rules.specs.Deliver.{stepNo}
+use Rattle.rules.specs.States.{stepNo}
 use Rattle.types.specs.declared.Fixed.{Fixed}
 use Rattle.types.specs.declared.Marks.{Marks}
 use Rattle.types.specs.declared.TransactionStep.{TransactionStep}

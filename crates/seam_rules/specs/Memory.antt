@@ -5,8 +5,7 @@ use mathlib.Core.List.{map}
 use Prim.Native.Nat.{ℕ}
 use lib.Dec.{eqb}
 use Rattle.basis.specs.Pick.{pick, flag}
-use Rattle.rules.specs.States.{notFinished}
-use Rattle.rules.specs.Deliver.{stepNo}
+use Rattle.rules.specs.States.{notFinished, stepNo}
 use Rattle.types.specs.declared.RemoteEntityConfig.{RemoteEntityConfig}
 use Rattle.types.specs.declared.LocalEntityConfig.{LocalEntityConfig}
 use Rattle.types.specs.declared.Choice.{Choice}
@@ -63,7 +62,7 @@ configOf c =
       count = c .count;
     }
 
--- a step's number is its row in the table of steps; any number past the last is Idle
+-- the step of a number by `stepNo`; any number past the last is Idle
 unfoldable pub stepOf : ℕ → TransactionStep
 stepOf n =
     pick (eqb n 1) SendingMetadata

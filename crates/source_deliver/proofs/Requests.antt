@@ -6,7 +6,8 @@ use Prim.Native.Nat.{ℕ, _+_, min}
 use lib.ListN.{length}
 use Rattle.rules_pdu.specs.Numbers.{F}
 use Rattle.rules_pdu.specs.Reading.{requestsFrom}
-use Rattle.rules.specs.Deliver.{requestsIn, asked, accepted, movedBy}
+use Rattle.rules.specs.Refusals.{accepted}
+use Rattle.rules.specs.Deliver.{requestsIn, asked, movedBy}
 use Rattle.types.specs.declared.Frame.{Frame}
 use Rattle.types.specs.declared.State.{State}
 use Rattle.types.specs.declared.Meaning.{Meaning}

@@ -1,8 +1,8 @@
 -- Questions that the code of a delivery asks of a PDU, besides document 01's own.
 -- Assumes nothing.
-use mathlib.Core.Bool.{Bool, true, false}
+use mathlib.Core.Bool.{Bool}
 use Prim.Native.Nat.{ℕ}
-use Rattle.basis.specs.Pick.{pick}
+use Rattle.basis.specs.Pick.{_and_, not}
 use Rattle.rules.specs.States.{isIdle}
 use Rattle.rules.specs.Deliver.{sameTransaction}
 use Rattle.types.specs.declared.Frame.{Frame}
@@ -19,4 +19,8 @@ askedCount (KeepAlive p) = 0
 
 -- whether it is another transaction's
 unfoldable pub isOther : State → Frame → Bool
-isOther s f = pick (isIdle (s .step)) false (pick (sameTransaction (s .fixed .head) (f .head)) false true)
+isOther s f = not (isIdle (s .step)) and not (sameTransaction (s .fixed .head) (f .head))
+
+-- whether the transaction takes NAKs: not in unacknowledged mode, not after cancellation
+unfoldable pub takesNak : State → Bool
+takesNak s = not (s .fixed .head .unacknowledged) and not (s .marks .cancelled)

@@ -1,2 +1,3 @@
 pub mod Asked
+pub mod Ways
 pub mod Effects

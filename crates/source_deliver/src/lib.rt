@@ -20,9 +20,10 @@ use types::Refusal;
 use types::State;
 use types::Verdict;
 ghost use mathlib.Core.Path.{_≡_};
-ghost use Rattle.rules.specs.Deliver.{sameTransaction, byVerdict, heard as heardIs, byBody, deliverSpec};
+ghost use Rattle.rules.specs.Deliver.{sameTransaction, deliverSpec};
 ghost use Rattle.rules.specs.Calls.{DeliverMeets};
 ghost use Rattle.source_deliver.specs.Asked.{askedCount, isOther};
+ghost use Rattle.source_deliver.specs.Ways.{verdictDone, heardDone, bodyDone};
 ghost use Rattle.source_deliver.specs.Effects.{doneBy, moveOf};
 
 // ---- the table at work
@@ -52,7 +53,7 @@ fn move_of(m: Meaning) -> Effect
 }
 
 fn by_verdict(s: State, bytes: &[u8], f: Frame, m: Meaning, v: Verdict) -> Effect
-    ensures { λ r. ⌜ doneBy s (now (bytes .entry)) r ≡ byVerdict s (now (bytes .entry)) f m v ⌝ }
+    ensures { λ r. ⌜ doneBy s (now (bytes .entry)) r ≡ verdictDone s (now (bytes .entry)) f m v ⌝ }
 {
     match v {
         Verdict::Enqueue => handle_nak_pdu(s, bytes, f, asked_count(m)),
@@ -93,7 +94,7 @@ fn is_other(s: State, f: Frame) -> bool
 
 // 23, then what the table says: 22 among it.
 fn heard(s: State, bytes: &[u8], f: Frame, m: Meaning) -> Effect
-    ensures { λ r. ⌜ doneBy s (now (bytes .entry)) r ≡ heardIs s (now (bytes .entry)) f m ⌝ }
+    ensures { λ r. ⌜ doneBy s (now (bytes .entry)) r ≡ heardDone s (now (bytes .entry)) f m ⌝ }
 {
     if is_other(s, f) {
         return Effect::Refuse(Refusal::OtherTransaction);
@@ -106,7 +107,7 @@ fn heard(s: State, bytes: &[u8], f: Frame, m: Meaning) -> Effect
 // ---- what the bytes say
 
 fn by_body(s: State, bytes: &[u8], f: Frame, b: Body) -> Effect
-    ensures { λ r. ⌜ doneBy s (now (bytes .entry)) r ≡ byBody s (now (bytes .entry)) f b ⌝ }
+    ensures { λ r. ⌜ doneBy s (now (bytes .entry)) r ≡ bodyDone s (now (bytes .entry)) f b ⌝ }
 {
     match b {
         Body::Malformed => Effect::Refuse(Refusal::Malformed),

@@ -8,7 +8,9 @@ use types::Refusal;
 use types::State;
 ghost use mathlib.Core.Path.{_≡_};
 ghost use Rattle.rules_pdu.specs.Reading.{requestsFrom};
-ghost use Rattle.rules.specs.Deliver.{takesNak, nakOf, requestsIn};
+ghost use Rattle.rules.specs.Deliver.{requestsIn};
+ghost use Rattle.source_deliver.specs.Asked.{takesNak};
+ghost use Rattle.source_deliver.specs.Ways.{nakDone};
 ghost use Rattle.source_deliver.specs.Effects.{doneBy};
 
 // Not in unacknowledged mode, not after cancellation.
@@ -26,7 +28,7 @@ fn takes_nak(s: State) -> bool
 
 // n requests, from a place on.
 fn handle_retransmission(s: State, bytes: &[u8], large: bool, at: usize, n: usize) -> Effect
-    ensures { λ r. ⌜ doneBy s (now (bytes .entry)) r ≡ nakOf s (requestsFrom n large (now (bytes .entry)) at) ⌝ }
+    ensures { λ r. ⌜ doneBy s (now (bytes .entry)) r ≡ nakDone s (requestsFrom n large (now (bytes .entry)) at) ⌝ }
 {
     if !takes_nak(s) {
         return Effect::Refuse(Refusal::UnexpectedPdu);
@@ -42,7 +44,7 @@ fn handle_retransmission(s: State, bytes: &[u8], large: bool, at: usize, n: usiz
 }
 
 pub(crate) fn handle_nak_pdu(s: State, bytes: &[u8], f: Frame, n: usize) -> Effect
-    ensures { λ r. ⌜ doneBy s (now (bytes .entry)) r ≡ nakOf s (requestsIn (now (bytes .entry)) f n) ⌝ }
+    ensures { λ r. ⌜ doneBy s (now (bytes .entry)) r ≡ nakDone s (requestsIn (now (bytes .entry)) f n) ⌝ }
 {
     let at = first_pair(bytes.len(), f.head.large, f.start);
     handle_retransmission(s, bytes, f.head.large, at, n)

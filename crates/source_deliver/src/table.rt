@@ -5,7 +5,8 @@ use types::TransactionStep;
 use types::Verdict;
 ghost use mathlib.Core.Path.{_≡_};
 ghost use Prim.Native.Nat.{_<_};
-ghost use Rattle.rules.specs.Deliver.{stepNo, verdictOf};
+ghost use Rattle.rules.specs.States.{stepNo};
+ghost use Rattle.rules.specs.Deliver.{verdictOf};
 
 const TABLE: [Row; 7] = [
     // Idle

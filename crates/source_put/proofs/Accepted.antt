@@ -6,23 +6,23 @@ use mathlib.Core.List.{List}
 use Prim.Native.Nat.{ℕ, _*_, _^_}
 use native.Mathlib.Omega.{arith}
 use lib.Dec.{ltb}
-use Rattle.basis.specs.Pick.{pick}
-use Rattle.basis.proofs.Pick.{pick-t}
+use Rattle.basis.specs.Pick.{pick, _and_, not}
 use Rattle.rules_pdu.specs.Numbers.{goodWidth, fits}
 use Rattle.rules.specs.States.{isIdle}
-use Rattle.rules.specs.Put.{idsFit, isFound, entryOf, headOf, entryAnswer, putAnswer}
+use Rattle.rules.specs.Put.{idsFit, isFound, entryOf, headOf, putAnswer}
+use Rattle.source_put.specs.Entry.{entryAnswer}
 use Rattle.types.specs.declared.State.{State}
 use Rattle.types.specs.declared.EntityId.{EntityId}
 use Rattle.types.specs.declared.TransactionSeqNum.{TransactionSeqNum}
 use Rattle.types.specs.declared.LocalEntityConfig.{LocalEntityConfig}
 use Rattle.types.specs.declared.PutRequest.{PutRequest}
 use Rattle.types.specs.declared.Refusal.{Refusal}
-use Rattle.types.specs.declared.Refusal.the-variants.{AlreadyBusy, BadIdWidth, NoRemoteCfgFound}
+use Rattle.types.specs.declared.Refusal.the-variants.{NoRemoteCfgFound}
 use Rattle.types.specs.declared.Answer.{Answer}
 use Rattle.types.specs.declared.Answer.the-variants.{Accepted, Refused}
 
--- a test that a refusal hangs on
-passed : (b : Bool) (a : Answer) (r : Refusal) → pick b a (Refused r) ≡ Accepted → (b ≡ true) × (a ≡ Accepted)
+-- an accepted put has passed its first test
+passed : (b : Bool) (a : Answer) (r : Refusal) → pick (not b) (Refused r) a ≡ Accepted → (b ≡ true) × (a ≡ Accepted)
 passed true a r e = (refl, e)
 passed false a r e = let z : _≡_ {A = ℕ} 0 1 = cc in absurd (omega arith)
 
@@ -38,7 +38,7 @@ ids-width : (a b : EntityId) (n : TransactionSeqNum) → idsFit a b n ≡ true �
 unfolding idsFit
 ids-width a b n e =
     let f = fits (n .0) (n .1) in
-    fits-width (n .0) (n .1) (both (fits (b .0) (b .1)) f (both (fits (a .0) (a .1)) (pick (fits (b .0) (b .1)) f false) e .1) .1)
+    fits-width (n .0) (n .1) (both (fits (b .0) (b .1)) f (both (fits (a .0) (a .1)) (fits (b .0) (b .1) and f) e .1) .1)
 
 module _ (s : State) (c : LocalEntityConfig) (q : PutRequest) (source destination : List ℕ) (S : ℕ) where
   abbrev over : Answer
@@ -46,21 +46,19 @@ module _ (s : State) (c : LocalEntityConfig) (q : PutRequest) (source destinatio
       let e = entryOf c (q .destination .1) in
       entryAnswer e (c .actions) (headOf c e q (s .number) S) source destination
 
-  abbrev sought : Answer
-  sought = pick (isFound c (q .destination .1)) over (Refused NoRemoteCfgFound)
-
-  abbrev fitting : Answer
-  fitting = pick (idsFit (c .id) (q .destination) (s .number)) sought (Refused BadIdWidth)
+  pub no-entry : isIdle (s .step) ≡ true → idsFit (c .id) (q .destination) (s .number) ≡ true → isFound c (q .destination .1) ≡ false
+      → Refused NoRemoteCfgFound ≡ putAnswer s c q source destination S
+  unfolding putAnswer
+  no-entry i f k = rw (i, f, k)
 
   -- behind the first three tests the entry answers
   pub to-entry : isIdle (s .step) ≡ true → idsFit (c .id) (q .destination) (s .number) ≡ true → isFound c (q .destination .1) ≡ true
       → over ≡ putAnswer s c q source destination S
-  unfolding putAnswer
-  to-entry i f k = pick-t (isIdle (s .step)) over fitting _ i (pick-t _ over sought _ f (pick-t _ over over _ k refl))
+  unfolding putAnswer entryAnswer
+  to-entry i f k = rw (i, f, k)
 
   pub number-width : putAnswer s c q source destination S ≡ Accepted → goodWidth (s .number .0) ≡ true
   unfolding putAnswer
   number-width e =
-      let p = passed (isIdle (s .step)) fitting AlreadyBusy e in
-      let f = passed (idsFit (c .id) (q .destination) (s .number)) sought BadIdWidth (p .1) in
-      ids-width (c .id) (q .destination) (s .number) (f .0)
+      let p = passed (isIdle (s .step)) _ _ e in
+      ids-width (c .id) (q .destination) (s .number) (passed (idsFit (c .id) (q .destination) (s .number)) _ _ (p .1) .0)

@@ -26,7 +26,8 @@ use utf8::is_utf8;
 ghost use mathlib.Core.Path.{_≡_};
 ghost use mathlib.Core.Bool.{true};
 ghost use Rattle.rules_pdu.specs.Numbers.{goodWidth};
-ghost use Rattle.rules.specs.Put.{chosen, headOf, tooLong, fixedOf, started, entryAnswer};
+ghost use Rattle.rules.specs.Put.{chosen, headOf, tooLong, fixedOf, started};
+ghost use Rattle.source_put.specs.Entry.{entryAnswer};
 
 // The put's own word, or the entry's.
 fn chosen(c: Choice, entry: bool) -> bool

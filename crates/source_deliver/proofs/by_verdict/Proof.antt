@@ -1,7 +1,7 @@
 -- Each arm is the definition's clause.
 -- Assumes nothing.
 use mathlib.Core.Path.{ap, _∙_}
-use Rattle.rules.specs.Deliver.{nakOf}
+use Rattle.source_deliver.specs.Ways.{nakDone}
 use Rattle.source_deliver.proofs.Requests.{asks, moves}
 use borrow.Author.Needs.{needs}
 use Rattle.source_deliver.proofs.by_verdict.Statement.{statement}
@@ -30,7 +30,7 @@ enum-told-4 c = search needs
 
 returns : tie.Need-returns
 returns c = let a = c .before .before .before .before .before .args in
-    rw (c .before .before .enum-told .given .1) (rw (c .before .asked-count .ensures) at (c .handle-nak-pdu .ensures) ∙ ap (nakOf (a .s)) (asks (a .bytes .now) (a .f) (a .m)))
+    rw (c .before .before .enum-told .given .1) (rw (c .before .asked-count .ensures) at (c .handle-nak-pdu .ensures) ∙ ap (nakDone (a .s)) (asks (a .bytes .now) (a .f) (a .m)))
 
 returns-2 : tie.Need-returns-2
 returns-2 c = let a = c .before .before .before .before .args in

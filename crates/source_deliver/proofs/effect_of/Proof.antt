@@ -1,6 +1,6 @@
 -- The header and the body that the code read are the definition's; the arm that it took is the definition's clause.
 -- Assumes nothing.
-use Rattle.rules.specs.Deliver.{deliverSpec}
+use Rattle.source_deliver.proofs.Order.{in-order}
 use borrow.Author.Needs.{needs}
 use Rattle.source_deliver.proofs.effect_of.Statement.{statement}
 use Rattle.source_deliver.proofs.effect_of.Tie as tie
@@ -21,12 +21,10 @@ by-body-requires : tie.Need-by-body-requires
 by-body-requires c κs = search needs
 
 returns : tie.Need-returns
-unfolding deliverSpec
-returns c = rw (← (c .before .before .read-header .ensures), c .enum-told .given .1)
+returns c = rw (← (in-order _ _), ← (c .before .before .read-header .ensures), c .enum-told .given .1)
 
 returns-2 : tie.Need-returns-2
-unfolding deliverSpec
-returns-2 c = rw (← (c .before .before .before .before .before .read-header .ensures), c .before .before .before .framed .given .1) (rw (c .before .read-body .ensures) at (c .by-body .ensures))
+returns-2 c = rw (← (in-order _ _), ← (c .before .before .before .before .before .read-header .ensures), c .before .before .before .framed .given .1) (rw (c .before .read-body .ensures) at (c .by-body .ensures))
 
 pub effect-of-spec : {M : Type 1} → statement M
 effect-of-spec =

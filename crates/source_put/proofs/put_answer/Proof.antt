@@ -1,9 +1,9 @@
 -- The tests in the definition's order, then the answer over the entry found.
 -- Assumes nothing.
 use Rattle.rules.specs.Put.{putAnswer}
-use borrow.Author.Tests.{not-false}
+use borrow.Author.Tests.{not-true, not-false}
 use Rattle.basis.proofs.Pick.{picks, told}
-use Rattle.source_put.proofs.Accepted.{to-entry}
+use Rattle.source_put.proofs.Accepted.{no-entry, to-entry}
 use borrow.Author.Needs.{needs}
 use Rattle.source_put.proofs.put_answer.Statement.{statement}
 use Rattle.source_put.proofs.put_answer.Tie as tie
@@ -26,8 +26,13 @@ is-found-requires : tie.Need-is-found-requires
 is-found-requires c κs = search needs
 
 returns-3 : tie.Need-returns-3
-unfolding putAnswer
-returns-3 c = search (picks, told) depth 10
+returns-3 c =
+    let f = c .before .before in
+    let i = f .before .before in
+    no-entry _ _ _ _ _ _
+    (told _ _ _ (i .before .is-idle .ensures) (not-false _ (i .if1 .left)))
+    (told _ _ _ (f .before .ids-fit .ensures) (not-false _ (f .if2 .left)))
+    (told _ _ _ (c .before .is-found .ensures) (not-true _ (c .if3 .taken)))
 
 entry-of-requires : tie.Need-entry-of-requires
 entry-of-requires c κs = search needs

@@ -1,7 +1,7 @@
 -- The requests from a place that stops at the end are those from the place itself.
 -- Assumes nothing.
 use mathlib.Core.Path.{ap, _∙_}
-use Rattle.rules.specs.Deliver.{nakOf}
+use Rattle.source_deliver.specs.Ways.{nakDone}
 use Rattle.source_deliver.proofs.Requests.{stops}
 use borrow.Author.Needs.{needs}
 use Rattle.source_deliver.proofs.nak.handle_nak_pdu.Statement.{statement}
@@ -15,7 +15,7 @@ handle-retransmission-requires c κs = search needs
 
 returns : tie.Need-returns
 returns c = let a = c .before .before .before .args in
-    rw (c .before .first-pair .ensures) at (c .handle-retransmission .ensures) ∙ ap (nakOf (a .s)) (stops (a .bytes .now) (a .f) (a .n))
+    rw (c .before .first-pair .ensures) at (c .handle-retransmission .ensures) ∙ ap (nakDone (a .s)) (stops (a .bytes .now) (a .f) (a .n))
 
 pub handle-nak-pdu-spec : {M : Type 1} → statement M
 handle-nak-pdu-spec =

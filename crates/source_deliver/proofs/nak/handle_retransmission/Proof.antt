@@ -2,7 +2,7 @@
 -- Assumes nothing.
 use mathlib.Core.Path.{sym}
 use Rattle.basis.proofs.Pick.{picks, told, via}
-use Rattle.rules.specs.Deliver.{nakOf}
+use Rattle.source_deliver.specs.Ways.{nakDone}
 use borrow.Author.Needs.{needs}
 use Rattle.source_deliver.proofs.nak.handle_retransmission.Statement.{statement}
 use Rattle.source_deliver.proofs.nak.handle_retransmission.Tie as tie
@@ -11,27 +11,27 @@ takes-nak-requires : tie.Need-takes-nak-requires
 takes-nak-requires c κs = search needs
 
 returns : tie.Need-returns
-unfolding nakOf
+unfolding nakDone
 returns c = search (picks, told) depth 8
 
 judge-requires : tie.Need-judge-requires
 judge-requires c κs = search needs
 
 returns-2 : tie.Need-returns-2
-unfolding nakOf
+unfolding nakDone
 returns-2 c = search (picks, told) depth 8
 
 free-requires : tie.Need-free-requires
 free-requires c κs = search needs
 
 returns-3 : tie.Need-returns-3
-unfolding nakOf
+unfolding nakDone
 returns-3 c = let f = c .before .before in
     let j = f .before .before in
     rw (← (f .free .ensures), ← (j .judge .ensures .0), ← (j .judge .ensures .1), f .before .if2 .left, c .if3 .taken) (search (picks, told, via) depth 8)
 
 returns-4 : tie.Need-returns-4
-unfolding nakOf
+unfolding nakDone
 returns-4 c = let f = c .before .before in
     let j = f .before .before in
     rw (← (f .free .ensures), ← (j .judge .ensures .0), ← (j .judge .ensures .1), f .before .if2 .left, c .if3 .left) (search (picks, told, via) depth 8)

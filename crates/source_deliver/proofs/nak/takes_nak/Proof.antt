@@ -1,7 +1,7 @@
 -- The branch that the code took is the definition's.
 -- Assumes nothing.
 use Rattle.basis.proofs.Pick.{picks}
-use Rattle.rules.specs.Deliver.{takesNak}
+use Rattle.source_deliver.specs.Asked.{takesNak}
 use Rattle.source_deliver.proofs.nak.takes_nak.Statement.{statement}
 use Rattle.source_deliver.proofs.nak.takes_nak.Tie as tie
 

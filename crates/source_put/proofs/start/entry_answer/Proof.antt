@@ -1,6 +1,6 @@
 -- The tests in the definition's order.
 -- Assumes nothing.
-use Rattle.rules.specs.Put.{entryAnswer}
+use Rattle.source_put.specs.Entry.{entryAnswer}
 use Rattle.basis.proofs.Pick.{picks, told}
 use borrow.Author.Needs.{needs}
 use Rattle.source_put.proofs.start.entry_answer.Statement.{statement}
@@ -25,7 +25,11 @@ is-utf8-requires c κs = search needs
 
 returns-3 : tie.Need-returns-3
 unfolding entryAnswer
-returns-3 c = search (picks, told) depth 14
+returns-3 c =
+    let s = c .before in
+    let l = s .before .before in
+    let g = l .before .before in
+    rw (← (s .is-utf8 .ensures), ← (l .good-lengths .ensures), ← (g .good-config .ensures)) (search picks depth 10)
 
 is-utf8-requires-2 : tie.Need-is-utf8-requires-2
 is-utf8-requires-2 c κs = search needs
