@@ -1,6 +1,6 @@
 -- Writing a number and reading it, and reading bytes and writing them, undo one another: once, over the width.
 -- Assumes nothing.
-use mathlib.Core.Path.{_≡_, refl, sym, ap, ap₂, _∙_}
+use mathlib.Core.Path.{_≡_, refl, ap, ap₂, _∙_}
 use mathlib.Core.List.{List, [], _∷_, _++_}
 use Prim.Native.Nat.{ℕ, zero, suc, _+_, _-_, _*_, _/_, _%_, _^_, _<_, _≤_, min}
 use native.Mathlib.Nat.{mod-eq-of-lt, mod-one, mul-le-mul-right, lt-of-lt-of-le, div-eq-of-lt, add-sub-cancel-left}

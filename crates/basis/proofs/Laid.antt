@@ -8,7 +8,7 @@ use native.Mathlib.Numerals.{add-one, sub-one}
 use native.Mathlib.Omega.{arith}
 use borrow.Author.Tests.{lt-ltb, le-ltb}
 use lib.ListN.{length, getD, take, drop, set, drop-of-length-le}
-use lib.Seq.{sets, sets-eq, drop-cons, take-append-seam, length-sets}
+use lib.Seq.{sets-eq, drop-cons, take-append-seam, length-sets}
 use Rattle.basis.specs.Bytes.{be}
 use Rattle.basis.specs.Laid.{laid, inFront}
 use Rattle.basis.proofs.Bytes.{length-be}

@@ -2,7 +2,7 @@
 -- Assumes nothing.
 use mathlib.Core.List.{List, [], _∷_}
 use Prim.Native.Nat.{ℕ, zero, suc, _+_, _*_, _/_, _%_, _^_, _<_}
-use lib.ListN.{length, take, drop, getD}
+use lib.ListN.{take, drop, getD}
 
 -- the w lowest bytes of v, the highest of them first
 unfoldable pub be : ℕ → ℕ → List ℕ

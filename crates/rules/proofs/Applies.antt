@@ -3,7 +3,7 @@
 use mathlib.Core.Path.{_≡_, refl}
 use mathlib.Core.Logic.{_⊎_, inl, inr}
 use mathlib.Core.Bool.{Bool, true, false}
-use Prim.Native.Nat.{ℕ, _+_, _<_, _≤_}
+use Prim.Native.Nat.{ℕ, _+_}
 use native.Mathlib.Omega.{arith}
 use borrow.Author.Tests.{eqb-true, eqb-false, leb-true, leb-false, ltb-true, ltb-false}
 use lib.Dec.{eqb, leb, ltb}
@@ -11,11 +11,10 @@ use lib.ListN.{getD}
 use Rattle.basis.specs.Pick.{pick, _and_}
 use Rattle.basis.proofs.Pick.{both, cases}
 use Rattle.rules.specs.Step.{actionFor, faultDue, ackExpired, checkExpired, dueAt, eofOwed, dueOf}
-use Rattle.rules.specs.Says.{NoneOwed, Free, Declared, cancels, ignores, abandons, once-cancelled, Applies, item-1, item-2, item-3, item-4, item-5, item-6-again, item-6-fault, item-7, item-8, item-9, DueApplies}
+use Rattle.rules.specs.Says.{Free, Declared, cancels, ignores, abandons, once-cancelled, Applies, item-1, item-2, item-3, item-4, item-5, item-6-again, item-6-fault, item-7, item-8, item-9, DueApplies}
 use Rattle.types.specs.declared.State.{State}
 use Rattle.types.specs.declared.TransactionStep.{TransactionStep}
 use Rattle.types.specs.declared.TransactionStep.the-variants.{Idle, SendingMetadata, SendingFileData, SendingEof, WaitingForEofAck, WaitingForFinished, Closing}
-use Rattle.types.specs.declared.Due.{Due}
 use Rattle.types.specs.declared.Due.the-variants.{CancelEof, Repair, EofAgain, FaultCancel, FaultIgnore, FaultAbandon, Nothing}
 
 one-fails : (a b : Bool) → (a and b) ≡ false → (a ≡ false) ⊎ (b ≡ false)

@@ -34,7 +34,7 @@ use Rattle.types.specs.declared.Answer.the-variants.{Accepted}
 use Rattle.rules_leaves.proofs.Sums.{sum-lt}
 use Rattle.rules_pdu.proofs.Round.{size-fits}
 use Rattle.rules.proofs.Pending.{orderly-empty}
-use Rattle.rules.proofs.Outcomes.{differ, passed, answer-by, state-by, passed-not}
+use Rattle.rules.proofs.Outcomes.{passed, answer-by, state-by, passed-not}
 use Rattle.rules.proofs.Hold.{Inv}
 use Rattle.rules.proofs.Stream.{Carries}
 
@@ -168,7 +168,7 @@ unfolding segmentLength
 segment-range h e n y l = let a = y .packet in let b = y .segment in (omega arith, omega arith, omega arith)
 
 -- "Names .. copied into the state"
-name-kept : (name : List ℕ) → length name ≤ 255 → take (paddedLength name) (padded name) ≡ name
+pub name-kept : (name : List ℕ) → length name ≤ 255 → take (paddedLength name) (padded name) ≡ name
 unfolding paddedLength padded
 name-kept name h = rw (le-ltb 255 (length name) h) (take-append-seam name (replicate (255 - length name) 0))
 

@@ -15,7 +15,7 @@ use Rattle.basis.specs.Bytes.{byte, numAt}
 use Rattle.basis.proofs.Pick.{cases}
 use Rattle.rules_pdu.specs.Numbers.{F}
 use Rattle.rules_leaves.specs.Checksum.{crc16}
-use Rattle.rules_pdu.specs.Reading.{endIn, headIn, crcAgrees, crcGood, wellFramed, frameIn, framedIn, bodyIn, fileDataIn, toSenderIn, largeIn, reserved, finishedParams, finishedIn, ackIn, requestCount, nakIn, keepAliveIn, directiveIn, directed, bodyOf}
+use Rattle.rules_pdu.specs.Reading.{endIn, headIn, crcAgrees, crcGood, wellFramed, frameIn, bodyIn, fileDataIn, toSenderIn, largeIn, reserved, finishedParams, finishedIn, ackIn, requestCount, nakIn, keepAliveIn, directiveIn, directed, bodyOf}
 use Rattle.rules.specs.Refusals.{answerNo}
 use Rattle.rules.specs.Queues.{invalid, anyInvalid, owing, free}
 use Rattle.rules.specs.Deliver.{saidIn, asked, requestsIn, sameTransaction, unexpected, deliverAnswer, deliverState, deliverSpec}

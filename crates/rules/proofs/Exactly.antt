@@ -2,24 +2,22 @@
 -- Assumes nothing.
 use mathlib.Core.Path.{_≡_, refl}
 use mathlib.Core.Logic.{_↔_, _⊎_, inl, inr, ⊎-elim}
-use mathlib.Core.Bool.{Bool, true, false, true≢false, false≢true}
+use mathlib.Core.Bool.{Bool, true, false, true≢false}
 use mathlib.Core.List.{List, [], _∷_, _++_}
 use Prim.Native.Nat.{ℕ}
 use lib.Dec.{eqb, ltb}
 use lib.ListN.{length, drop}
 use Rattle.basis.specs.Pick.{pick, _and_, not}
-use Rattle.basis.specs.Bytes.{part}
 use Rattle.basis.specs.Laid.{inFront}
 use Rattle.basis.proofs.Pick.{cases}
-use Rattle.rules_pdu.specs.Reading.{framedIn, bodyOf}
 use Rattle.rules.specs.Refusals.{answerNo, byAnswer}
-use Rattle.rules.specs.States.{isIdle, stepNo}
-use Rattle.rules.specs.Queues.{isMetadata, owes, anyInvalid, owing, free}
+use Rattle.rules.specs.States.{stepNo}
+use Rattle.rules.specs.Queues.{isMetadata, owes, owing}
 use Rattle.rules.specs.Put.{putAnswer, putState, putSpec}
-use Rattle.rules.specs.Deliver.{verdictOf, sameTransaction, asked, byVerdict, deliverSpec, saidIn, deliverAnswer, deliverState}
+use Rattle.rules.specs.Deliver.{deliverSpec, saidIn, deliverAnswer, deliverState}
 use Rattle.rules.specs.Step.{dueOf, afterOf, eventsOf, changed, refusedStep, bytesDue, performed, stepSpec, stepBytes}
 use Rattle.rules.specs.Cancel.{canCancel, mayCancel, userCancelled, cancelSpec}
-use Rattle.rules.specs.Exactly.{stepRules, StepExactly, CancelExactly, CancelMarks, OwesExactly, Counted, empty, one, other, OwingExactly, NoEvents, RefusalChangesNothing}
+use Rattle.rules.specs.Exactly.{stepRules, StepExactly, CancelExactly, OwesExactly, Counted, empty, one, other, OwingExactly, NoEvents, RefusalChangesNothing}
 use Rattle.types.specs.declared.EntityId.{EntityId}
 use Rattle.types.specs.declared.TransactionSeqNum.{TransactionSeqNum}
 use Rattle.types.specs.declared.SegmentRequest.{SegmentRequest}
@@ -81,16 +79,6 @@ cancel-exactly s source number =
     rw (answers (mayCancel s source number) (userCancelled s) s)
     (fails-iff (fails-map (⊎-elim (⊎-elim inl (λ x. inr (inl x))) (λ x. inr (inr x))) (⊎-elim (λ x. inl (inl x)) (⊎-elim (λ x. inl (inr x)) inr))
     (fails-may s source number)))
-
-cancelled : (b : Bool) (s t : State)
-    → pick {A = Cancelled} b (record { yes = true; state = t }) (record { yes = false; state = s }) .yes ≡ true
-    → pick {A = Cancelled} b (record { yes = true; state = t }) (record { yes = false; state = s }) .state ≡ t
-cancelled true s t e = refl
-cancelled false s t e = absurd (false≢true e)
-
-pub cancel-marks : CancelMarks
-unfolding cancelSpec
-cancel-marks s source number = cancelled (mayCancel s source number) s (userCancelled s)
 
 -- ---- requests that owe
 

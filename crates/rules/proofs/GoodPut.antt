@@ -7,9 +7,9 @@ use Prim.Native.Nat.{ℕ, _-_, _^_, _≤_, _<_}
 use native.Mathlib.Omega.{arith}
 use borrow.Author.Tests.{le-ltb}
 use lib.Dec.{eqb, ltb}
-use lib.ListN.{length, take, replicate, length-append, length-replicate}
-use lib.Seq.{take-append-seam, drop-append-seam}
-use Rattle.basis.specs.Pick.{pick, _and_, not}
+use lib.ListN.{length, replicate, length-append, length-replicate}
+use lib.Seq.{drop-append-seam}
+use Rattle.basis.specs.Pick.{_and_, not}
 use Rattle.basis.proofs.Pick.{both}
 use Rattle.rules_leaves.specs.Utf8.{isUtf8}
 use Rattle.rules_pdu.specs.Layout.{metadata, encode, pduLength}
@@ -22,11 +22,9 @@ use Rattle.types.specs.declared.RemoteEntityConfig.{RemoteEntityConfig}
 use Rattle.types.specs.declared.LocalEntityConfig.{LocalEntityConfig}
 use Rattle.types.specs.declared.PutRequest.{PutRequest}
 use Rattle.types.specs.declared.State.{State}
-use Rattle.types.specs.declared.Refusal.{Refusal}
-use Rattle.types.specs.declared.Answer.the-variants.{Accepted, Refused}
-use Rattle.rules.proofs.Tells.{but}
+use Rattle.types.specs.declared.Answer.the-variants.{Accepted}
 use Rattle.rules.proofs.Outcomes.{passed, passed-not}
-use Rattle.rules.proofs.Begun.{head-fit, entry-good, name-lengths, packet-holds, segment-range}
+use Rattle.rules.proofs.Begun.{head-fit, entry-good, name-lengths, packet-holds, segment-range, name-kept}
 use Rattle.rules.proofs.PutExactly.{tells-type, fails-actions}
 use Rattle.rules_pdu.proofs.Round.{length-encode}
 use Rattle.rules_leaves.proofs.Utf8.{utf8-exactly}
@@ -43,9 +41,6 @@ padded-length : (name : List ℕ) → length name ≤ 255 → paddedLength name 
 unfolding paddedLength
 padded-length name h = rw (le-ltb 255 (length name) h)
 
-name-is : (name : List ℕ) → length name ≤ 255 → take (paddedLength name) (padded name) ≡ name
-name-is name h = rw (padded-is name h, padded-length name h) (take-append-seam name (replicate (255 - length name) 0))
-
 good-name : (name : List ℕ) → (0 < length name) × (length name ≤ 255) → isUtf8 name ≡ true → GoodName (padded name) (paddedLength name)
 good-name name n u =
     let l = n .1 in
@@ -54,7 +49,7 @@ good-name name n u =
       least = rw (padded-length name l) (n .0);
       most = rw (padded-length name l) l;
       zeros = rw (padded-is name l, padded-length name l) (drop-append-seam name (replicate (255 - length name) 0));
-      utf8 = rw (name-is name l) (utf8-exactly name .0 u);
+      utf8 = rw (name-kept name l) (utf8-exactly name .0 u);
     }
 
 -- ---- what is fixed
@@ -124,8 +119,8 @@ put-good s c q source destination S S64 e₀ =
           source = good-name source (lengths .0) (t₆ .0);
           destination = good-name destination (lengths .1) (t₇ .0);
           metadata =
-              meta-room h e _ _ _ source destination _ _ t₈ (entry-good e (c .actions) (t₄ .0) .packet) (name-is source (lengths .0 .1))
-              (name-is destination (lengths .1 .1));
+              meta-room h e _ _ _ source destination _ _ t₈ (entry-good e (c .actions) (t₄ .0) .packet) (name-kept source (lengths .0 .1))
+              (name-kept destination (lengths .1 .1));
           next = refl;
         },
         refl,

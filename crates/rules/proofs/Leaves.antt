@@ -1,38 +1,31 @@
 -- The state that a call leaves, by the tests that its definition makes.
 -- Assumes nothing.
-use mathlib.Core.Path.{_≡_, refl, sym, ap, subst, _∙_}
-use mathlib.Core.Logic.{_⊎_, inl, inr}
-use mathlib.Core.Bool.{Bool, true, false, true≢false, false≢true}
-use mathlib.Core.List.{List, [], _∷_}
-use mathlib.Core.Option.{Option, none, some}
-use Prim.Native.Nat.{ℕ, _+_, _-_, _<_, _≤_, min}
+use mathlib.Core.Path.{_≡_, refl, sym, subst, _∙_}
+use mathlib.Core.Bool.{Bool, true, false, false≢true}
+use mathlib.Core.List.{List}
+use Prim.Native.Nat.{ℕ, _+_, _-_, _<_}
 use native.Mathlib.Omega.{arith}
-use borrow.Author.Tests.{eqb-true, eqb-false, eq-eqb, le-leb, lt-leb}
-use lib.Dec.{eqb, leb, ltb}
+use borrow.Author.Tests.{eqb-true, eqb-false, le-leb, lt-leb}
+use lib.Dec.{eqb}
 use lib.ListN.{length}
-use Rattle.basis.specs.Pick.{pick, _and_, not}
-use Rattle.basis.specs.Bytes.{Bytes}
+use Rattle.basis.specs.Pick.{pick}
 use Rattle.basis.proofs.Pick.{cases}
-use Rattle.rules_pdu.specs.Layout.{Said, eof}
-use Rattle.rules_pdu.specs.Decoding.{withHead, decode}
-use Rattle.rules.specs.States.{idle, toStep, emptyQueue}
-use Rattle.rules.specs.Queues.{pending, oldest, pop, served}
-use Rattle.rules.specs.Step.{eofOwed, dueOf, eofFor, nextLength, afterCancelEof, afterMetadata, onward, afterData, afterEof, afterOf, changed, stepSpec}
+use Rattle.rules.specs.States.{idle, toStep}
+use Rattle.rules.specs.Queues.{oldest, served}
+use Rattle.rules.specs.Step.{eofOwed, dueOf, eofFor, nextLength, afterCancelEof, afterMetadata, onward, afterData, afterEof, afterOf, changed}
 use Rattle.rules.specs.Cancel.{mayCancel, userCancelled, cancelSpec, resetSpec, newSpec}
 use Rattle.rules.specs.Good.{At, Good}
-use Rattle.rules.specs.Says.{Applies, item-1, item-2, item-3, item-4, item-5, item-6-again, item-6-fault, item-7, item-8, item-9, Declared, cancels, ignores, abandons, once-cancelled, eofOfSent, named, pduOf}
-use Rattle.rules.specs.Leaves.{EmptyQueue, Cleared, Back, IdleCleared, AwaitsAck, Served, Left, StepLeft, CancelLeaves}
+use Rattle.rules.specs.Says.{Applies, item-1, item-2, item-3, item-4, item-5, item-6-again, item-6-fault, item-7, item-8, item-9, Declared, cancels, ignores, abandons, once-cancelled}
+use Rattle.rules.specs.Leaves.{Cleared, Back, IdleCleared, Left, StepLeft, CancelLeaves}
 use Rattle.types.specs.declared.EntityId.{EntityId}
 use Rattle.types.specs.declared.TransactionSeqNum.{TransactionSeqNum}
 use Rattle.types.specs.declared.State.{State}
 use Rattle.types.specs.declared.TransactionStep.{TransactionStep}
-use Rattle.types.specs.declared.TransactionStep.the-variants.{Idle, SendingFileData, SendingEof, WaitingForFinished}
+use Rattle.types.specs.declared.TransactionStep.the-variants.{SendingFileData, SendingEof}
 use Rattle.types.specs.declared.Due.{Due}
-use Rattle.types.specs.declared.Due.the-variants.{CancelEof, Repair, Metadata, Data, NoErrorEof, EofAgain, FaultCancel, FaultIgnore, FaultAbandon, Close, Nothing}
-use Rattle.types.specs.declared.Answer.the-variants.{Accepted}
+use Rattle.types.specs.declared.Due.the-variants.{CancelEof, Repair, Metadata, Data, NoErrorEof}
 use Rattle.types.specs.declared.Cancelled.{Cancelled}
 use Rattle.rules.proofs.Pending.{Formed, pending-first, pending-changed}
-use Rattle.rules.proofs.Makes.{step-makes}
 use Rattle.rules.proofs.Good.{good-kept}
 use Rattle.rules.proofs.Applies.{due-applies}
 use Rattle.rules.proofs.Says.{lent-whole, step-taken, due-says}
@@ -144,7 +137,8 @@ module _ (s : State) (file : List ℕ) (g : Good s) where
 
 pub step-left : StepLeft
 step-left s file expired room g a =
-    rw (step-makes .done s file expired room a .0) (after-due s file g expired (dueOf s expired) (step-taken s file expired room a .unchanged) (due-applies s expired))
+    let t = step-taken s file expired room a in
+    rw (t .state-is) (after-due s file g expired (dueOf s expired) (t .unchanged) (due-applies s expired))
 
 -- ---- cancel
 

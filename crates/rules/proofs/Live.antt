@@ -10,7 +10,7 @@ use native.Mathlib.Omega.{arith}
 use lib.Dec.{ltb}
 use lib.ListN.{length, take, drop, length-take, length-append}
 use borrow.Author.Tests.{le-ltb, eq-eqb}
-use Rattle.basis.specs.Pick.{pick, _and_, not}
+use Rattle.basis.specs.Pick.{_and_, not}
 use Rattle.basis.specs.Bytes.{part}
 use Rattle.rules_pdu.specs.Numbers.{H, F, C}
 use Rattle.rules_pdu.specs.Layout.{encodeHeard, nak, pduLength, Pdu}

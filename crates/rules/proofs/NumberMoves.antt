@@ -8,11 +8,9 @@ use lib.Dec.{eqb, ltb}
 use lib.ListN.{length}
 use Rattle.basis.proofs.Pick.{cases}
 use Rattle.rules.specs.States.{idle}
-use Rattle.rules.specs.Queues.{anyInvalid, owing, free}
 use Rattle.rules.specs.Put.{started, putAnswer, putState, putSpec}
 use Rattle.rules.specs.Deliver.{verdictOf, movedBy, asked, byVerdict, deliverSpec}
 use Rattle.rules.specs.Step.{dueOf, nextLength, afterCancelEof, afterMetadata, afterData, afterEof, afterOf, changed, bytesDue, performed, stepSpec}
-use Rattle.rules_pdu.specs.Numbers.{numberAfter}
 use Rattle.rules.specs.Refusals.{byAnswer}
 use Rattle.rules.specs.Cancel.{resetSpec}
 use Rattle.rules.specs.Runs.{put, deliver, step, cancel, reset, Shown, began, took, went, after, unless, trace, behind}

@@ -10,7 +10,7 @@ use lib.Dec.{eqb}
 use Rattle.basis.specs.Pick.{pick}
 use Rattle.basis.proofs.Pick.{both}
 use Rattle.rules.specs.Exactly.{Rule, _when_, After, Exactly, NoneOf}
-use Rattle.rules.proofs.Tells.{Tells, Fails, but}
+use Rattle.rules.proofs.Tells.{Tells, but}
 use Rattle.rules.specs.Refusals.{refusalNo, answerNo}
 use Rattle.types.specs.declared.Refusal.{Refusal}
 use Rattle.types.specs.declared.Answer.{Answer}

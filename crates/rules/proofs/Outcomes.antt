@@ -104,7 +104,7 @@ taken s bytes said e =
     record { expected = n .0; unbarred = n .1; valid = v .0; room = passed (ltb (free (s .queue)) (owing (asked bytes (frameIn bytes) (meaningOf said)))) _ _ (v .1) .0 }
 
 -- what the bytes ask for
-asked-same : (bytes : List ℕ) → asked bytes (frameIn bytes) (meaningOf (saidIn bytes)) ≡ requests bytes
+pub asked-same : (bytes : List ℕ) → asked bytes (frameIn bytes) (meaningOf (saidIn bytes)) ≡ requests bytes
 unfolding saidIn requests framedIn frameIn bodyIn
 asked-same bytes = go (wellFramed bytes)
   where

@@ -15,6 +15,7 @@ use Rattle.basis.specs.Pick.{pick}
 use Rattle.rules.specs.States.{blank, emptyQueue}
 use Rattle.rules.specs.Queues.{pending, isMetadata, owes, invalid, anyInvalid, owing, free, push, pushOwed, pushAll, oldest, pop, piece, served}
 use Rattle.rules.specs.Step.{repairOf}
+use Rattle.rules.specs.Runs.{those}
 use Rattle.rules.specs.Tiles.{tiles, answer, answers}
 use Rattle.types.specs.declared.SegmentRequest.{SegmentRequest}
 use Rattle.types.specs.declared.Queue.{Queue}
@@ -88,37 +89,32 @@ module _ (q : Queue) (r : SegmentRequest) (f : Formed q) (p : q .count < 64) whe
   count-push : push q r .count ≡ q .count + 1
   count-push = rw pushed
 
--- those that owe, in their order
-unfoldable those : List SegmentRequest → List SegmentRequest
-those [] = []
-those (r ∷ rs) = pick (owes r) (r ∷ those rs) (those rs)
-
 record Queued (q k : Queue) (rs : List SegmentRequest) : Type 0 where
   list-is : pending k ≡ pending q ++ rs
   formed : Formed k
 
-all-queued : (q : Queue) (rs : List SegmentRequest) → Formed q → q .count + owing rs ≤ 64 → Queued q (pushAll q rs) (those rs)
-unfolding pushAll pushOwed owing those
+all-queued : (q : Queue) (rs : List SegmentRequest) → Formed q → q .count + owing rs ≤ 64 → Queued q (pushAll q rs) (those owes rs)
+unfolding pushAll pushOwed owing
 all-queued q [] f h = record { list-is = sym (append-nil (pending q)); formed = f }
 all-queued q (r ∷ rs) f h = go (λ k. all-queued k rs) (owes r) h
   where
     go :
-        ((k : Queue) → Formed k → k .count + owing rs ≤ 64 → Queued k (pushAll k rs) (those rs))
+        ((k : Queue) → Formed k → k .count + owing rs ≤ 64 → Queued k (pushAll k rs) (those owes rs))
         → (t : Bool)
         → q .count + pick t (suc (owing rs)) (owing rs) ≤ 64
-        → Queued q (pushAll (pick t (push q r) q) rs) (pick t (r ∷ those rs) (those rs))
+        → Queued q (pushAll (pick t (push q r) q) rs) (pick t (r ∷ those owes rs) (those owes rs))
     go ih true h =
         let p : q .count < 64 = omega arith in
         let c = count-push q r f p in
         let k = ih (push q r) (formed-push q r f p) (omega arith) in
-        record { list-is = k .list-is ∙ rw (pending-push q r f p) (append-assoc (pending q) (r ∷ []) (those rs)); formed = k .formed }
+        record { list-is = k .list-is ∙ rw (pending-push q r f p) (append-assoc (pending q) (r ∷ []) (those owes rs)); formed = k .formed }
     go ih false h = ih q f h
 
 room-left : (q : Queue) (n : ℕ) → Formed q → ltb (free q) n ≡ false → q .count + n ≤ 64
 unfolding free
 room-left q n f e = let l = ltb-false (64 - q .count) n e in let y = f .used in omega arith
 
-pending-all : (q : Queue) (rs : List SegmentRequest) → Formed q → ltb (free q) (owing rs) ≡ false → pending (pushAll q rs) ≡ pending q ++ those rs
+pub pending-all : (q : Queue) (rs : List SegmentRequest) → Formed q → ltb (free q) (owing rs) ≡ false → pending (pushAll q rs) ≡ pending q ++ those owes rs
 pending-all q rs f e = all-queued q rs f (room-left q (owing rs) f e) .list-is
 
 formed-all : (q : Queue) (rs : List SegmentRequest) → Formed q → ltb (free q) (owing rs) ≡ false → Formed (pushAll q rs)
@@ -130,12 +126,11 @@ owe-append : (q k : List SegmentRequest) → AllOwe q → AllOwe k → AllOwe (q
 owe-append [] k h l = l
 owe-append (r ∷ q) k h l = (h .0, owe-append q k (h .1) l)
 
-owe-those : (rs : List SegmentRequest) → AllOwe (those rs)
-unfolding those
+owe-those : (rs : List SegmentRequest) → AllOwe (those owes rs)
 owe-those [] = tt
 owe-those (r ∷ rs) = go (owe-those rs) (owes r) refl
   where
-    go : AllOwe (those rs) → (t : Bool) → owes r ≡ t → AllOwe (pick t (r ∷ those rs) (those rs))
+    go : AllOwe (those owes rs) → (t : Bool) → owes r ≡ t → AllOwe (pick t (r ∷ those owes rs) (those owes rs))
     go ih true e = (e, ih)
     go ih false e = ih
 
@@ -152,12 +147,12 @@ module _ (L : ℕ) (pos : 0 < L) where
           let z : r .end - r .start ≡ 0 = omega arith in
           rw (z, tiles-zero L (r .start) pos)
 
-  answers-those : (rs : List SegmentRequest) → answers L (those rs) ≡ answers L rs
-  unfolding answers those
+  answers-those : (rs : List SegmentRequest) → answers L (those owes rs) ≡ answers L rs
+  unfolding answers
   answers-those [] = refl
   answers-those (r ∷ rs) = go (answers-those rs) (owes r) refl
     where
-      go : answers L (those rs) ≡ answers L rs → (t : Bool) → owes r ≡ t → answers L (pick t (r ∷ those rs) (those rs)) ≡ answer L r ++ answers L rs
+      go : answers L (those owes rs) ≡ answers L rs → (t : Bool) → owes r ≡ t → answers L (pick t (r ∷ those owes rs) (those owes rs)) ≡ answer L r ++ answers L rs
       go ih true e = rw ih
       go ih false e = rw (ih, owes-none r e)
 
@@ -300,13 +295,13 @@ module _ (L S : ℕ) where
 
     module _ (rs : List SegmentRequest) (n : ℕ) (l : n ≤ S) (valid : anyInvalid n rs ≡ false) (room : ltb (free q) (owing rs) ≡ false) where
       pub all-answers : answers L (pending (pushAll q rs)) ≡ answers L (pending q) ++ answers L rs
-      all-answers = rw (pending-all q rs (o .formed) room, answers-append L (pending q) (those rs), answers-those L pos rs)
+      all-answers = rw (pending-all q rs (o .formed) room, answers-append L (pending q) (those owes rs), answers-those L pos rs)
 
       pub orderly-all : Orderly L S (pushAll q rs)
       orderly-all =
           let e = pending-all q rs (o .formed) room in
           record {
             formed = formed-all q rs (o .formed) room;
-            owe = rw e (owe-append (pending q) (those rs) (o .owe) (owe-those rs));
+            owe = rw e (owe-append (pending q) (those owes rs) (o .owe) (owe-those rs));
             within = rw all-answers (within-append L S (answers L (pending q)) (answers L rs) (o .within) (answers-within L pos S n rs l valid));
           }

@@ -1,11 +1,11 @@
 -- What leaves decodes to the PDU that document 01 names: in a good state it can be said, so reading what was written gives it back.
 -- Assumes nothing.
 use mathlib.Core.Path.{_≡_, refl, sym, ap, subst, _∙_}
-use mathlib.Core.Logic.{_↔_, _⊎_, inl, inr, ⊎-elim}
+use mathlib.Core.Logic.{_↔_, inl, inr, ⊎-elim}
 use mathlib.Core.Bool.{Bool, true, false, true≢false, false≢true}
 use mathlib.Core.List.{List, [], _∷_, _++_}
 use mathlib.Core.Option.{Option, none, some}
-use Prim.Native.Nat.{ℕ, _+_, _-_, _*_, _^_, _<_, _≤_, min}
+use Prim.Native.Nat.{ℕ, _-_, _*_, _^_, _<_, _≤_, min}
 use native.Mathlib.Omega.{arith}
 use borrow.Author.Tests.{eqb-true, ltb-true, ltb-false}
 use lib.Dec.{eqb, ltb}
@@ -18,27 +18,25 @@ use Rattle.basis.proofs.Pick.{cases}
 use Rattle.basis.proofs.Laid.{front, in-front, taken}
 use Rattle.rules_leaves.specs.Checksum.{sumOf}
 use Rattle.rules_leaves.proofs.Sums.{sum-lt}
-use Rattle.rules_pdu.specs.Numbers.{isLarge, H, F, C}
-use Rattle.rules_pdu.specs.Layout.{Said, metadata, fileData, eof, ackFinished, encode}
+use Rattle.rules_pdu.specs.Numbers.{F}
+use Rattle.rules_pdu.specs.Layout.{Said, eof, ackFinished, encode}
 use Rattle.rules_pdu.specs.Reading.{wellFramed}
 use Rattle.rules_pdu.specs.Decoding.{withHead, decode}
 use Rattle.rules_pdu.specs.PduLaws.{Fit, Sayable}
 use Rattle.rules_pdu.proofs.Round.{round-trip, size-fits}
-use Rattle.rules.specs.States.{isIdle, idle, emptyQueue}
+use Rattle.rules.specs.States.{idle}
 use Rattle.rules.specs.Queues.{pending, isMetadata, owes, oldest, pop}
-use Rattle.rules.specs.Step.{dueOf, eofFor, repairOf, closing, closureBit, sendingOf, bytesFor, bytesDue, eventsOf, afterOf, changed, performed, refusedStep, stepSpec, stepBytes}
-use Rattle.rules.specs.Good.{AllOwe, GoodFixed, GoodName, Under, At, Good}
+use Rattle.rules.specs.Step.{dueOf, eofFor, repairOf, closing, closureBit, sendingOf, bytesFor, bytesDue, eventsOf, afterOf, changed, performed, stepSpec, stepBytes}
+use Rattle.rules.specs.Good.{AllOwe, GoodName, Under, At, Good}
 use Rattle.rules.specs.Exactly.{KnownType}
-use Rattle.rules.specs.Says.{NoneOwed, Free, Declared, cancels, ignores, abandons, once-cancelled, Waits, Applies, item-1, item-2, item-3, item-4, item-5, item-6-again, item-6-fault, item-7, item-8, item-9, eofOfSent, itsMetadata, bytesAt, answerTo, named, pduOf, DueSays, IsEof, StepEmits}
+use Rattle.rules.specs.Says.{NoneOwed, Declared, cancels, ignores, abandons, once-cancelled, Applies, item-1, item-2, item-3, item-4, item-5, item-6-again, item-6-fault, item-7, item-8, item-9, eofOfSent, itsMetadata, bytesAt, answerTo, named, pduOf, DueSays, IsEof, StepEmits}
 use Rattle.types.specs.declared.Head.{Head}
 use Rattle.types.specs.declared.SegmentRequest.{SegmentRequest}
-use Rattle.types.specs.declared.Queue.{Queue}
 use Rattle.types.specs.declared.State.{State}
 use Rattle.types.specs.declared.TransactionStep.{TransactionStep}
 use Rattle.types.specs.declared.TransactionStep.the-variants.{Idle, SendingMetadata, SendingFileData, SendingEof, WaitingForEofAck, WaitingForFinished, Closing}
 use Rattle.types.specs.declared.Due.{Due}
 use Rattle.types.specs.declared.Due.the-variants.{CancelEof, Repair, Metadata, Data, NoErrorEof, EofAgain, FaultCancel, FaultIgnore, FaultAbandon, Close, Nothing}
-use Rattle.types.specs.declared.Sending.{Sending}
 use Rattle.types.specs.declared.Sending.the-variants.{Nothing as NoPdu, Metadata as MetadataPdu, FileData, AckFinished}
 use Rattle.types.specs.declared.Answer.the-variants.{Accepted}
 use Rattle.types.specs.declared.Stepped.{Stepped}
@@ -237,6 +235,7 @@ pub record Taken (s : State) (file : List ℕ) (expired : Bool) (room : ℕ) (r 
   pub unchanged : changed s (length file) ≡ false
   pub fits : length (bytesDue s file expired) ≤ room
   pub length-is : r .length ≡ length (bytesDue s file expired)
+  pub state-is : r .state ≡ afterOf s file (dueOf s expired)
   pub events-are : r .events ≡ eventsOf s (dueOf s expired)
 
 pub step-taken : (s : State) (file : List ℕ) (expired : Bool) (room : ℕ) → stepSpec s file expired room .answer ≡ Accepted → Taken s file expired room (stepSpec s file expired room)
@@ -245,7 +244,7 @@ step-taken s file expired room =
     let P : Stepped → Type 0 = λ r. r .answer ≡ Accepted → Taken s file expired room r in
     cases P (changed s (length file)) _ _ (λ t e. absurd (refused≢accepted _ e))
     (λ t. cases P (ltb room (length (bytesDue s file expired))) _ _ (λ u e. absurd (refused≢accepted _ e))
-    (λ u e. record { unchanged = t; fits = ltb-false room _ u; length-is = refl; events-are = refl }))
+    (λ u e. record { unchanged = t; fits = ltb-false room _ u; length-is = refl; state-is = refl; events-are = refl }))
 
 module _ (s : State) (file : List ℕ) (expired : Bool) (out : List ℕ) (a : stepSpec s file expired (length out) .answer ≡ Accepted) where
   laid-in-front : stepBytes s file expired out ≡ inFront (bytesDue s file expired) out
@@ -309,5 +308,6 @@ pub step-emits : StepEmits
 step-emits =
     record {
       buffer = λ s file expired out a. behind-it s file expired out a;
+      events = λ s file expired room a. step-taken s file expired room a .events-are;
       eof-sent = λ s file expired room a. rw (step-taken s file expired room a .events-are) (eof-tied s file (dueOf s expired));
     }

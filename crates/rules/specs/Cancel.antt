@@ -1,7 +1,6 @@
 -- Cancel, reset and new.
 -- Assumes nothing.
 use mathlib.Core.Bool.{Bool, true, false}
-use Prim.Native.Nat.{ℕ}
 use lib.Dec.{eqb}
 use Rattle.basis.specs.Pick.{pick, _and_, not}
 use Rattle.rules.specs.States.{withQueue, withMarks, marked, emptyQueue, idle}

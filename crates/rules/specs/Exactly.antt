@@ -15,7 +15,6 @@ use Rattle.rules_pdu.specs.Layout.{metadata, encode}
 use Rattle.rules_pdu.specs.Reading.{versionIn, idWidthIn, seqWidthIn, lengthIn, crcIn, largeIn, fileDataIn, toSenderIn, headIn, endIn, frameIn, bodyIn, requestCount}
 use Rattle.rules_pdu.specs.PduLaws.{Tlvs}
 use Rattle.rules.specs.Refusals.{answerNo}
-use Rattle.rules.specs.States.{withQueue, withMarks, marked, emptyQueue}
 use Rattle.rules.specs.Queues.{isMetadata, owes, owing}
 use Rattle.rules.specs.Put.{isFound, entryOf, chosen, headOf, putSpec}
 use Rattle.rules.specs.Deliver.{requestsIn, deliverSpec}
@@ -246,12 +245,6 @@ CancelExactly =
     ⊎ (s .marks .cancelled ≡ true)
     ⊎ (¬ (source .1 ≡ s .fixed .head .source .1))
     ⊎ (¬ (number .1 ≡ s .fixed .head .number .1)))
-
--- PROMISE cancel-marks: "User cancel: condition 15, mark set, queue emptied, EOF owed", and nothing else changes.
-abbrev pub CancelMarks : Type 0
-CancelMarks =
-    (s : State) (source : EntityId) (number : TransactionSeqNum) → cancelSpec s source number .yes ≡ true
-    → cancelSpec s source number .state ≡ withMarks (withQueue s emptyQueue) (marked (s .marks) 15 true)
 
 -- ---- "A refusal returns its number and changes nothing."
 

@@ -1,30 +1,35 @@
--- The state that a call leaves, field by field: Idle, each case of a step, a cancel, a reset. The definitions' own helpers are not named here, so that a
--- mistake in one of them shows. Proof: proofs/Leaves.antt.
+-- The state that a call leaves, field by field: Idle, each case of a step, a cancel, a reset, a delivery. The definitions' own helpers are not named here, so that a
+-- mistake in one of them shows. Proofs: proofs/Leaves.antt, Heeded.antt.
 -- Assumes nothing.
 use mathlib.Core.Path.{_≡_}
-use mathlib.Core.Logic.{_↔_}
 use mathlib.Core.Bool.{Bool, true, false}
-use mathlib.Core.List.{List, [], _∷_}
+use mathlib.Core.List.{List, [], _∷_, _++_}
 use mathlib.Core.Option.{some}
 use Prim.Native.Nat.{ℕ, _+_, _-_, _≤_, _<_, min}
 use lib.ListN.{length, replicate}
 use Rattle.basis.specs.Bytes.{Bytes}
 use Rattle.rules_pdu.specs.Layout.{Said, eof}
 use Rattle.rules_pdu.specs.Decoding.{decode}
-use Rattle.rules.specs.Queues.{pending}
+use Rattle.rules_pdu.specs.Reading.{wellFramed, frameIn, bodyIn, bodyOf}
+use Rattle.rules.specs.Queues.{pending, owes}
+use Rattle.rules.specs.Deliver.{deliverSpec}
 use Rattle.rules.specs.Step.{dueOf, stepSpec}
 use Rattle.rules.specs.Cancel.{cancelSpec, resetSpec, newSpec}
 use Rattle.rules.specs.Good.{Good}
+use Rattle.rules.specs.Runs.{those, requests}
 use Rattle.rules.specs.Says.{eofOfSent, named, pduOf}
 use Rattle.types.specs.declared.EntityId.{EntityId}
 use Rattle.types.specs.declared.TransactionSeqNum.{TransactionSeqNum}
 use Rattle.types.specs.declared.SegmentRequest.{SegmentRequest}
 use Rattle.types.specs.declared.Queue.{Queue}
 use Rattle.types.specs.declared.State.{State}
-use Rattle.types.specs.declared.TransactionStep.{TransactionStep}
-use Rattle.types.specs.declared.TransactionStep.the-variants.{Idle, SendingFileData, SendingEof, WaitingForEofAck, WaitingForFinished}
+use Rattle.types.specs.declared.TransactionStep.the-variants.{Idle, SendingFileData, SendingEof, WaitingForEofAck, WaitingForFinished, Closing}
 use Rattle.types.specs.declared.Due.{Due}
 use Rattle.types.specs.declared.Due.the-variants.{CancelEof, Repair, Metadata, Data, NoErrorEof, EofAgain, FaultCancel, FaultIgnore, FaultAbandon, Close, Nothing}
+use Rattle.types.specs.declared.FinishedParams.{FinishedParams}
+use Rattle.types.specs.declared.Meaning.{Meaning}
+use Rattle.types.specs.declared.Meaning.the-variants.{Finished, AckOfEof, Nak, KeepAlive}
+use Rattle.types.specs.declared.Body.the-variants.{Means}
 use Rattle.types.specs.declared.Answer.the-variants.{Accepted}
 
 -- ---- "Every way to Idle keeps only the sequence number."
@@ -141,3 +146,28 @@ pub record CancelLeaves : Type 0 where
       → (file : List ℕ) (expired : Bool) (out : List ℕ) → Bytes file → let t = cancelSpec s source number .state in
       stepSpec t file expired (length out) .answer ≡ Accepted
       → decode (pduOf t file expired out) ≡ some (record { head = s .fixed .head; said = eofOfSent s file 15 })
+
+-- ---- deliver
+
+-- bytes that are a PDU for a sender, with this meaning
+abbrev pub Meant : List ℕ → Meaning → Type 0
+Meant bytes m = (wellFramed bytes ≡ true) × (bodyOf (frameIn bytes) (bodyIn bytes) ≡ Means m)
+
+-- PROMISE deliver-leaves: what an accepted delivery leaves, by what the PDU means; all else is equal.
+pub record DeliverLeaves : Type 0 where
+  -- "queue": those of its requests that owe a PDU stand behind the pending ones
+  pub nak : (s : State) (bytes : List ℕ) (n : ℕ) → Good s → deliverSpec s bytes .answer ≡ Accepted → Meant bytes (Nak n) → let t = deliverSpec s bytes .state in
+      (pending (t .queue) ≡ pending (s .queue) ++ those owes (requests bytes))
+      × (t .step ≡ s .step) × Same s t × (t .file ≡ s .file) × (t .marks ≡ s .marks)
+  -- "WaitingForFinished"
+  pub ack : (s : State) (bytes : List ℕ) → deliverSpec s bytes .answer ≡ Accepted → Meant bytes AckOfEof → let t = deliverSpec s bytes .state in
+      (t .step ≡ WaitingForFinished) × Same s t × (t .file ≡ s .file) × (t .queue ≡ s .queue) × (t .marks ≡ s .marks)
+  -- "Closing; queue and owed EOF dropped"; in Idle no effect
+  pub finished : (s : State) (bytes : List ℕ) (p : FinishedParams) → deliverSpec s bytes .answer ≡ Accepted → Meant bytes (Finished p) → ¬ (s .step ≡ Idle)
+      → let t = deliverSpec s bytes .state in
+      (t .step ≡ Closing) × EmptyQueue (t .queue) × (t .marks .owed ≡ false) × (t .marks .finished ≡ p) × Same s t × (t .file ≡ s .file)
+      × (t .marks .cancelled ≡ s .marks .cancelled) × (t .marks .condition ≡ s .marks .condition) × (t .marks .count ≡ s .marks .count)
+      × (t .marks .anomalies ≡ s .marks .anomalies)
+  pub finished-idle : (s : State) (bytes : List ℕ) (p : FinishedParams) → deliverSpec s bytes .answer ≡ Accepted → Meant bytes (Finished p) → s .step ≡ Idle
+      → deliverSpec s bytes .state ≡ s
+  pub keep-alive : (s : State) (bytes : List ℕ) (p : ℕ) → deliverSpec s bytes .answer ≡ Accepted → Meant bytes (KeepAlive p) → deliverSpec s bytes .state ≡ s

@@ -1,11 +1,11 @@
 -- Pending requests: 64 places, the oldest first. "Served places are free again."
 -- Definitions speak of the array, so that every place is determined; promises speak of the list, `pending`.
 -- Assumes nothing.
-use mathlib.Core.Bool.{Bool, true, false}
+use mathlib.Core.Bool.{Bool, false}
 use mathlib.Core.List.{List, [], _∷_, _++_}
 use Prim.Native.Nat.{ℕ, suc, _+_, _-_, min}
 use lib.Dec.{eqb, leb, ltb}
-use lib.ListN.{length, getD, take, drop, set}
+use lib.ListN.{getD, take, drop, set}
 use Rattle.basis.specs.Pick.{pick, _and_, _or_}
 use Rattle.rules.specs.States.{blank}
 use Rattle.types.specs.declared.SegmentRequest.{SegmentRequest}

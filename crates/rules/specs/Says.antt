@@ -8,14 +8,14 @@ use mathlib.Core.List.{List, [], _∷_, _++_}
 use mathlib.Core.Option.{Option, none, some}
 use Prim.Native.Nat.{ℕ, _+_, _-_, _<_, _≤_, min}
 use lib.Dec.{eqb}
-use lib.ListN.{length, getD, take, drop, replicate}
+use lib.ListN.{length, getD, take, drop}
 use Rattle.basis.specs.Pick.{pick, _and_}
 use Rattle.basis.specs.Bytes.{Bytes}
 use Rattle.rules_leaves.specs.Checksum.{sumOf}
 use Rattle.rules_pdu.specs.Layout.{Said, metadata, fileData, eof, ackFinished}
 use Rattle.rules_pdu.specs.Decoding.{withHead, decode}
 use Rattle.rules.specs.Queues.{pending}
-use Rattle.rules.specs.Step.{dueOf, stepSpec, stepBytes}
+use Rattle.rules.specs.Step.{dueOf, eventsOf, stepSpec, stepBytes}
 use Rattle.rules.specs.Good.{Good}
 use Rattle.types.specs.declared.SegmentRequest.{SegmentRequest}
 use Rattle.types.specs.declared.State.{State}
@@ -125,6 +125,9 @@ pub record StepEmits : Type 0 where
   -- "After an accepted step the out buffer holds the PDU in front and its old bytes behind."
   pub buffer : (s : State) (file : List ℕ) (expired : Bool) (out : List ℕ) → stepSpec s file expired (length out) .answer ≡ Accepted
       → stepBytes s file expired out ≡ pduOf s file expired out ++ drop (stepSpec s file expired (length out) .length) out
+  -- the events are those of the case that is due (event-cases)
+  pub events : (s : State) (file : List ℕ) (expired : Bool) (room : ℕ) → stepSpec s file expired room .answer ≡ Accepted
+      → stepSpec s file expired room .events ≡ eventsOf s (dueOf s expired)
   -- "Each EOF gives an EOF-sent event; .. only if the configuration's flag is set."
   pub eof-sent : (s : State) (file : List ℕ) (expired : Bool) (room : ℕ) → stepSpec s file expired room .answer ≡ Accepted
       → (stepSpec s file expired room .events .eofsent ≡ true) ↔ ((s .fixed .eofsent ≡ true) × IsEof (named s file (dueOf s expired)))

@@ -1,8 +1,7 @@
 -- "A step does the first that applies": the case that is due, then for each case the PDU, the state after it and the events.
 -- Assumes nothing.
-use mathlib.Core.Path.{_≡_}
 use mathlib.Core.Bool.{Bool, true, false}
-use mathlib.Core.List.{List, [], _∷_}
+use mathlib.Core.List.{List, []}
 use Prim.Native.Nat.{ℕ, _+_, _-_, min}
 use lib.Dec.{eqb, leb, ltb}
 use lib.ListN.{length, getD, take, drop}
@@ -12,7 +11,6 @@ use Rattle.rules_leaves.specs.Checksum.{sumOf}
 use Rattle.rules_pdu.specs.Layout.{Said, metadata, fileData, eof, ackFinished, encode}
 use Rattle.rules.specs.States.{isIdle, toStep, withFile, withQueue, withMarks, progressed, keeping, counted, marked, settled, emptyQueue, idle, sourceName, destinationName}
 use Rattle.rules.specs.Queues.{isMetadata, oldest, piece, served}
-use Rattle.types.specs.declared.Head.{Head}
 use Rattle.types.specs.declared.SegmentRequest.{SegmentRequest}
 use Rattle.types.specs.declared.Eof.{Eof}
 use Rattle.types.specs.declared.State.{State}
@@ -24,7 +22,6 @@ use Rattle.types.specs.declared.Sending.{Sending}
 use Rattle.types.specs.declared.Sending.the-variants.{Nothing as NoPdu, Metadata as MetadataPdu, FileData, Eof as EofPdu, AckFinished}
 use Rattle.types.specs.declared.Events.{Events}
 use Rattle.types.specs.declared.TransactionId.{TransactionId}
-use Rattle.types.specs.declared.FaultEvent.{FaultEvent}
 use Rattle.types.specs.declared.FaultEvent.the-variants.{NoFault, Fault}
 use Rattle.types.specs.declared.FinishedEvent.{FinishedEvent}
 use Rattle.types.specs.declared.FinishedEvent.the-variants.{NotFinished, Finished}

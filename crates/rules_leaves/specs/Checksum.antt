@@ -1,12 +1,11 @@
 -- "Checksums over the first n bytes": 0 modular, 2 CRC-32C, 3 CRC-32, 15 null; and the CRC-16 that closes a PDU. Proof: proofs/Sums.antt.
 -- Assumes nothing.
 use mathlib.Core.Path.{_≡_}
-use mathlib.Core.Bool.{Bool, true, false}
 use mathlib.Core.List.{List, [], _∷_, _++_}
 use Prim.Native.Nat.{ℕ, zero, suc, _+_, _-_, _*_, _/_, _%_, _^_}
 use lib.Bits.{bitXor}
 use lib.Dec.{eqb, ltb}
-use lib.ListN.{length, take}
+use lib.ListN.{length}
 use Rattle.basis.specs.Pick.{pick}
 use Rattle.types.specs.declared.Checksum.{Checksum}
 use Rattle.types.specs.declared.Checksum.the-variants.{Is, UnknownType}

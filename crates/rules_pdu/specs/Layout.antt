@@ -1,6 +1,5 @@
 -- "PDU bytes (727)": what each PDU says, and its bytes. A table row of document 01 is a line of `layout` or `layoutHeard`.
 -- Assumes nothing.
-use mathlib.Core.Path.{_≡_}
 use mathlib.Core.Bool.{Bool, true, false}
 use mathlib.Core.List.{List, [], _∷_, _++_}
 use Prim.Native.Nat.{ℕ, _+_, _-_, _*_, _%_}

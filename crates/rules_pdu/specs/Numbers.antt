@@ -1,7 +1,7 @@
 -- "Numbers": ids and sequence numbers, H, F, C and L.
 -- Assumes nothing.
-use mathlib.Core.Bool.{Bool, true, false}
-use Prim.Native.Nat.{ℕ, _+_, _-_, _*_, _%_, _^_, _<_, min}
+use mathlib.Core.Bool.{Bool}
+use Prim.Native.Nat.{ℕ, _+_, _-_, _*_, _%_, _^_, min}
 use lib.Dec.{eqb, ltb}
 use Rattle.basis.specs.Pick.{pick, _and_, _or_, flag}
 use Rattle.types.specs.declared.EntityId.{EntityId}

@@ -5,8 +5,8 @@ use mathlib.Core.Path.{_≡_}
 use mathlib.Core.Logic.{_↔_, _⊎_}
 use mathlib.Core.Bool.{Bool, true, false}
 use mathlib.Core.List.{List, [], _∷_, _++_}
-use mathlib.Core.Option.{Option, some}
-use Prim.Native.Nat.{ℕ, _+_, _-_, _*_, _/_, _%_, _^_, _<_, _≤_}
+use mathlib.Core.Option.{some}
+use Prim.Native.Nat.{ℕ, _+_, _-_, _*_, _/_, _%_, _^_, _<_}
 use lib.Dec.{eqb}
 use lib.ListN.{length, take, set}
 use Rattle.basis.specs.Pick.{pick}
@@ -14,12 +14,11 @@ use Rattle.basis.specs.Bytes.{byte, numAt, Bytes}
 use Rattle.rules_pdu.specs.Fields.{wire}
 use Rattle.rules_pdu.specs.Numbers.{goodWidth, H, F, C}
 use Rattle.rules_leaves.specs.Checksum.{crc16}
-use Rattle.rules_pdu.specs.Layout.{Said, metadata, fileData, eof, ackFinished, Heard, finished, ackEof, nak, keepAlive, Pdu, headBytes, layout, layoutHeard, trailer, encode, encodeHeard, pduLength}
-use Rattle.rules_pdu.specs.Reading.{reserved, lengthIn, frameIn, framedIn, headIn, hIn, bodyIn, bodyOf, areTlvs, directiveIn, requestsFrom}
-use Rattle.rules_pdu.specs.Decoding.{decode, isEofIn}
+use Rattle.rules_pdu.specs.Layout.{Said, metadata, fileData, eof, ackFinished, Heard, finished, ackEof, nak, keepAlive, headBytes, layout, layoutHeard, trailer, encode, encodeHeard, pduLength}
+use Rattle.rules_pdu.specs.Reading.{reserved, lengthIn, frameIn, framedIn, bodyIn, bodyOf, areTlvs, directiveIn, requestsFrom}
+use Rattle.rules_pdu.specs.Decoding.{decode}
 use Rattle.types.specs.declared.Head.{Head}
 use Rattle.types.specs.declared.Frame.{Frame}
-use Rattle.types.specs.declared.Framed.{Framed}
 use Rattle.types.specs.declared.Framed.the-variants.{Malformed as NoFrame, Whole}
 use Rattle.types.specs.declared.SegmentRequest.{SegmentRequest}
 use Rattle.types.specs.declared.Meaning.{Meaning}

@@ -1,15 +1,13 @@
 -- "PDU bytes (727)": what the bytes of a PDU say, read by places and widths. The writers' definitions are not used here.
 -- Assumes nothing.
-use mathlib.Core.Path.{_≡_}
 use mathlib.Core.Bool.{Bool, true, false}
 use mathlib.Core.List.{List, [], _∷_}
-use mathlib.Core.Option.{Option, none, some}
 use Prim.Native.Nat.{ℕ, zero, suc, _+_, _-_, _*_, _/_, _%_}
 use lib.ListN.{length, take, drop}
-use lib.Dec.{eqb, leb, ltb}
+use lib.Dec.{eqb, ltb}
 use Rattle.basis.specs.Pick.{pick, _and_, _or_, not}
 use Rattle.basis.specs.Bytes.{part, byte, numAt}
-use Rattle.rules_pdu.specs.Numbers.{goodWidth, H, F, C}
+use Rattle.rules_pdu.specs.Numbers.{goodWidth, F, C}
 use Rattle.rules_leaves.specs.Checksum.{crc16}
 use Rattle.types.specs.declared.Head.{Head}
 use Rattle.types.specs.declared.Frame.{Frame}
@@ -17,7 +15,6 @@ use Rattle.types.specs.declared.Framed.{Framed}
 use Rattle.types.specs.declared.Framed.the-variants.{Malformed as NoFrame, Whole}
 use Rattle.types.specs.declared.SegmentRequest.{SegmentRequest}
 use Rattle.types.specs.declared.FinishedParams.{FinishedParams}
-use Rattle.types.specs.declared.Meaning.{Meaning}
 use Rattle.types.specs.declared.Meaning.the-variants.{Finished, AckOfEof, Nak, KeepAlive}
 use Rattle.types.specs.declared.Body.{Body}
 use Rattle.types.specs.declared.Body.the-variants.{Malformed, CantProcess, Means}

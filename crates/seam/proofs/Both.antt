@@ -1,6 +1,6 @@
 -- The two parts of a step, and those of a delivery, together are the call's definition.
 -- Assumes nothing.
-use mathlib.Core.Path.{_≡_, refl, sym, ap, _∙_}
+use mathlib.Core.Path.{_≡_, refl, ap}
 use mathlib.Core.Bool.{Bool, true, false, not}
 use mathlib.Core.List.{List}
 use Prim.Native.Nat.{ℕ, _+_}
@@ -12,7 +12,7 @@ use Rattle.source_step.specs.Once.{afterWith}
 use Rattle.source_step.specs.Bulk.{bulkOf, isKept}
 use Rattle.source_step.specs.Outcomes.{steppedAs, steppedBy}
 use Rattle.source_step.specs.declared.outcome.Outcome.{Outcome}
-use Rattle.source_deliver.specs.Effects.{answerBy, doneBy}
+use Rattle.source_deliver.specs.Effects.{doneBy}
 use Rattle.source_deliver.specs.declared.effect.Effect.{Effect}
 use Rattle.source_deliver.specs.declared.effect.Effect.the-variants.{Refuse, NoEffect, WaitForFinished, Close as CloseBy, Enqueue}
 use Rattle.source_step.specs.declared.bulk.Bulk.{Bulk}
@@ -28,9 +28,8 @@ use Rattle.types.specs.declared.Answer.{Answer}
 use Rattle.types.specs.declared.Answer.the-variants.{Accepted, Refused}
 use Rattle.seam_rules.specs.declared.memory.Report.{Report}
 use Rattle.seam_rules.specs.declared.memory.Handler.{Handler}
-use Rattle.seam_rules.specs.declared.Done.{Done}
 use Rattle.seam.specs.declared.light.Light.{Light}
-use Rattle.seam.specs.Parts.{keptLight, lightOf, lightHeld, queued, bulkHeld, queueHeld}
+use Rattle.seam.specs.Parts.{keptLight, lightOf, lightHeld, queued, bulkHeld}
 use Rattle.seam.specs.Told.{toldAs, toldBy, toldDone, heardBy, heardDone}
 
 -- ---- a step

@@ -9,7 +9,6 @@ use lib.Dec.{ltb}
 use lib.ListN.{length}
 use Rattle.basis.specs.Pick.{pick}
 use Rattle.rules_pdu.specs.Layout.{writtenOf}
-use Rattle.types.specs.declared.Written.{Written}
 use Rattle.types.specs.declared.Written.the-variants.{Short, Wrote}
 
 -- Short: the branch for a buffer that is too small

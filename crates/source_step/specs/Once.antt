@@ -1,6 +1,6 @@
 -- How the code of a step keeps to the definitions while it computes the EOF once: the PDU holds it, and the new state takes it from there.
 -- Assumes nothing.
-use Prim.Native.Nat.{ℕ, _+_, _<_}
+use Prim.Native.Nat.{_+_, _<_}
 use Rattle.rules.specs.States.{withQueue, withMarks, counted, noEof, idle}
 use Rattle.rules.specs.Queues.{served}
 use Rattle.rules.specs.Step.{afterCancelEof, afterMetadata, afterData, afterEof, faultMarked}

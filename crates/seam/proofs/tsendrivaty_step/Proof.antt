@@ -2,7 +2,7 @@
 -- that tells the handler is copied again and passed to `bulk_held` or to `light_held`, what that gives is stored, and the borrow is closed at the new handler. All that is known of the
 -- three is that they meet their contracts.
 -- Assumes nothing.
-use mathlib.Core.Path.{_≡_, refl, sym, ap, _∙_}
+use mathlib.Core.Path.{_≡_, refl, ap, _∙_}
 use mathlib.Core.Bool.{not}
 use lib.Dec.{T as Holds}
 use Prim.Native.Nat.{ℕ, _<_, _^_}
@@ -44,7 +44,7 @@ use denote.Exit.{yes}
 use denote.Signature.{plain, shrSliceOf}
 use Rattle.seam_rules.specs.Seam.{stepDone, stepOut}
 use Rattle.seam.specs.Parts.{lightHeld, bulkHeld}
-use Rattle.seam.specs.Told.{toldHeld, toldDone}
+use Rattle.seam.specs.Told.{toldDone}
 use Rattle.seam_rules.specs.declared.memory.Handler.{Handler}
 use Rattle.seam_rules.specs.declared.Done.{Done}
 use Rattle.seam.specs.declared.step.Told.{Told}

@@ -1,7 +1,6 @@
 -- `num_at`: a part cut at the end of the slice is the part.
 -- Assumes nothing.
 use mathlib.Core.Path.{_∙_}
-use native.Mathlib.Omega.{arith}
 use lib.Pow.{pow-pos}
 use Rattle.basis.proofs.Bytes.{num-past, num-part, part-le}
 use borrow.Author.Needs.{needs}

@@ -3,7 +3,6 @@
 use mathlib.Core.Path.{ap, _∙_}
 use Rattle.seam_rules.specs.Memory.{reportOf}
 use Rattle.seam_rules.specs.Seam.{byAnswer, stepDone, stepOut}
-use Rattle.seam_rules.specs.declared.Done.{Done}
 use Rattle.types.specs.declared.Stepped.{Stepped}
 use Rattle.seam.proofs.Both.{told-done}
 use borrow.Author.Needs.{needs}

@@ -1,6 +1,5 @@
 -- The branch that the code took is the definition's; what each callee gave is its definition.
 -- Assumes nothing.
-use mathlib.Core.Path.{sym}
 use Rattle.basis.proofs.Pick.{picks, told, via}
 use Rattle.source_deliver.specs.Ways.{nakDone}
 use borrow.Author.Needs.{needs}

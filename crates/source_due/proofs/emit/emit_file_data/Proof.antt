@@ -1,5 +1,4 @@
 -- The two places are cut at the file's end, which changes no byte of the part. Assumes nothing.
-use mathlib.Core.Path.{ap, _∙_}
 use Rattle.source_due.proofs.Parts.{cut}
 use borrow.Author.Needs.{needs}
 use Rattle.source_due.proofs.emit.emit_file_data.Statement.{statement}

@@ -1,5 +1,4 @@
 -- The closure bit as closure_bit gives it; the rest is the writer's. Assumes nothing.
-use mathlib.Core.Path.{_∙_}
 use borrow.Author.Needs.{needs}
 use Rattle.source_due.proofs.emit.emit_metadata.Statement.{statement}
 use Rattle.source_due.proofs.emit.emit_metadata.Tie as tie
