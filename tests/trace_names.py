@@ -1,5 +1,6 @@
 #!/usr/bin/env python3
-"""Holds the names in docs/TRACE.md, OPEN.md, DECISIONS.md and CHECKTIME.md to the tree: every must-fail edit `crate/label` and every function `crate::name` must be there.
+"""Holds the names in docs/TRACE.md, OPEN.md, DECISIONS.md and CHECKTIME.md to the tree: every must-fail edit `crate/label`, every function
+`crate::name`, every run of `passes` and every statement of TRACE's last table must be there.
 
     python3 tests/trace_names.py
 
@@ -45,6 +46,32 @@ def edits_named(text):
     return named, empty
 
 
+def runs_unknown(text):
+    """Runs of the program `passes` that are cited and not there; `all N runs` must have its number."""
+    with open(os.path.join(ROOT, 'crates', 'passes', 'stdout'), encoding='utf-8') as f:
+        labels = [line.rstrip('\n') for line in f if not line.startswith(' ')]
+    cited = re.findall(r'\| passes: (.*?) \|', text)
+    return len(cited), [c for c in cited if c not in labels and not c.startswith('all ' + labels[-1])]
+
+
+def statements_unknown(text):
+    """Statements and proofs of the last table that their files don't declare."""
+    declared = {}
+    for p in glob.glob(os.path.join(ROOT, 'crates', 'rules*', '*', '*.antt')):
+        with open(p, encoding='utf-8') as f:
+            declared.setdefault(os.path.basename(p)[:-5], set()).update(re.findall(r'^(?:abbrev |unfoldable )?pub (?:record )?([^\s:]+)', f.read(), re.M))
+    seen, unknown = 0, []
+    for line in text.split('## Where the statements are proved')[-1].split('\n'):
+        cells = [c.strip() for c in line.split('|')]
+        if len(cells) != 5 or '`' not in cells[1]:
+            continue
+        proof = cells[3].split(' ')[-1]
+        wanted = [(n, cells[2]) for n in re.findall(r'`(.+?)`', cells[1])] + [(n, proof) for n in re.findall(r'`(.+?)`', cells[3])]
+        seen += len(wanted)
+        unknown += ['%s in %s' % w for w in wanted if w[0] not in declared.get(w[1], ())]
+    return seen, unknown
+
+
 def main():
     have = {'/': {c: edits(c) for c in CRATES}, '::': {c: functions(c) for c in CRATES}}
     seen, missing = 0, 0
@@ -53,6 +80,10 @@ def main():
             text = f.read()
         named, empty = edits_named(text)
         missing += empty
+        for count, unknown in (runs_unknown(text), statements_unknown(text)) if doc == 'TRACE.md' else ():
+            seen, missing = seen + count, missing + len(unknown)
+            for name in unknown:
+                print('%s: %s is not there' % (doc, name))
         for mark, crate, name in sorted(named | functions_named(text)):
             seen += 1
             if name not in have[mark].get(crate, ()):
