@@ -25,6 +25,7 @@ use Rattle.types.specs.declared.Meaning.the-variants.{Finished, AckOfEof, Nak, 
 use Rattle.types.specs.declared.Body.{Body}
 use Rattle.types.specs.declared.Body.the-variants.{Malformed, CantProcess, Means}
 use Rattle.rules_pdu.proofs.Places.{At, at-start, past, byte-at, whole-length}
+use Rattle.rules_pdu.proofs.Spare.{ack-byte}
 use Rattle.rules_pdu.proofs.Heard.{tlvs-exactly, one-byte, heard-body}
 
 pub reserved-exactly : ReservedExactly
@@ -80,7 +81,7 @@ ack-of-finished-read {b} large c t p k l r =
     let d : byte b 0 ≡ 6 = byte-at p (omega arith) in
     let e : length b ≡ 3 = whole-length p in
     let f : byte b 1 ≡ 0x51 = byte-at (past p) (omega arith) in
-    let g : byte b 2 ≡ c * 16 + t = byte-at (past (past p)) (omega arith) in
+    let g : byte b 2 ≡ c * 16 + t = ack-byte [] large c t p k l in
     let q : (c * 16 + t) / 16 ≡ c = omega arith in
     simp (d, e, f, g, q, r)
 
@@ -260,7 +261,7 @@ judged large (c ∷ s) y =
     (λ n. cases P (eqb c 12) _ _ (λ e. rw (eqb-true c 12 e) (keep-alive-judged large s (y .1))) (λ n. inl refl)))))))
 
 -- the layouts give no Malformed
-given : {large : Bool} {b : List ℕ} {r : Body} → ByLayout large b r → r ≡ Malformed → ⊥
+pub given : {large : Bool} {b : List ℕ} {r : Body} → ByLayout large b r → r ≡ Malformed → ⊥
 given (heard m y e) q = false≢true (cc q)
 given (ofFinished c t y r e) q = false≢true (cc q)
 given (unread code rest k e) q = false≢true (cc q)

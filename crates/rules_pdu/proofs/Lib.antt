@@ -1,6 +1,9 @@
 pub mod Places
+pub mod Spare
 pub mod Round
+pub mod Writes
 pub mod Heard
 pub mod ExactBody
+pub mod Routed
 pub mod ExactFrame
 pub mod Numbers

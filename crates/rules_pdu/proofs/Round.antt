@@ -26,6 +26,7 @@ use Rattle.rules_pdu.specs.PduLaws.{Fit, Sayable, RoundTrip, SameBytes, 
 use Rattle.types.specs.declared.Head.{Head}
 use Rattle.types.specs.declared.EntityId.{EntityId}
 use Rattle.rules_pdu.proofs.Places.{At, at-start, past, part-at, num-at, byte-at, rest-at, whole-length, opened, length-wire}
+use Rattle.rules_pdu.proofs.Spare.{eof-byte, metadata-byte, ack-byte}
 use Rattle.rules_leaves.proofs.Sums.{crc16-lt}
 
 -- ---- the header
@@ -246,7 +247,7 @@ module _ {s : List ℕ} {h : Head} {filedata tosender : Bool} {body : List ℕ} 
 abbrev front : Head → Bool → Bool → List ℕ → List ℕ
 front h filedata tosender body = headBytes h filedata tosender (length body + C (h .crc)) ++ body
 
-pdu-at : (h : Head) (filedata tosender : Bool) (body : List ℕ)
+pub pdu-at : (h : Head) (filedata tosender : Bool) (body : List ℕ)
     → At (pduBytes h filedata tosender body) 0
     (headFields h filedata tosender (length body + C (h .crc)) (raw body ∷ raw (trailer (h .crc) (front h filedata tosender body)) ∷ []))
 unfolding pduBytes headBytes
@@ -289,7 +290,7 @@ metadata-read {s} large {closure} {k} {n} {a} {b} p h =
     let z = flag-lt closure in
     let p3 = past (past (past p)) in
     let p5 = past (past p3) in
-    let flags : byte s 1 ≡ flag closure * 64 + k = byte-at (past p) (omega arith) in
+    let flags : byte s 1 ≡ flag closure * 64 + k = metadata-byte [] large closure k n a b p (h .0) in
     let la : byte s (2 + F large) ≡ length a = byte-at p3 (h .2) in
     let lb : byte s (2 + F large + 1 + length a) ≡ length b = byte-at p5 (h .3) in
     let e : length s ≡ 4 + F large + length a + length b = whole-length p ∙ omega arith in
@@ -309,7 +310,7 @@ data-read {s} large {o} {bs} p h =
 eof-read : {s : List ℕ} (large : Bool) {c k n : ℕ} → At s 0 (layout large (eof c k n)) → Sayable large (eof c k n) → eofIn large s ≡ some (eof c k n)
 unfolding eofIn
 eof-read {s} large {c} {k} {n} p h =
-    let b : byte s 1 ≡ c * 16 = byte-at (past p) (omega arith) in
+    let b : byte s 1 ≡ c * 16 = eof-byte [] large c k n p (h .0) in
     let q : c * 16 / 16 ≡ c = omega arith in
     let e : length s ≡ 6 + F large = whole-length p ∙ omega arith in
     simp (eq-eqb _ _ e, b, q, num-at (past (past p)) (h .1), num-at (past (past (past p))) (h .2))
@@ -319,7 +320,7 @@ ack-read : {s : List ℕ} (large : Bool) {c t : ℕ} → At s 0 (layout large (a
 unfolding ackFinishedIn
 ack-read {s} large {c} {t} p h =
     let a : byte s 1 ≡ 0x51 = byte-at (past p) (omega arith) in
-    let b : byte s 2 ≡ c * 16 + t = byte-at (past (past p)) (omega arith) in
+    let b : byte s 2 ≡ c * 16 + t = ack-byte [] large c t p (h .0) (h .1) in
     let q : (c * 16 + t) / 16 ≡ c = omega arith in
     let r : (c * 16 + t) % 4 ≡ t = omega arith in
     let e : length s ≡ 3 = whole-length p in

@@ -1,5 +1,5 @@
 -- What follows from the layouts and their readings: reading what was written gives its meaning back.
--- The other way round, only what was written is read. Proofs: proofs/Round.antt, Heard.antt, ExactBody.antt, ExactFrame.antt.
+-- The other way round, only what was written is read. Proofs: proofs/Round.antt, Writes.antt, Heard.antt, ExactBody.antt, Routed.antt, ExactFrame.antt.
 -- Assumes nothing.
 use mathlib.Core.Path.{_≡_}
 use mathlib.Core.Logic.{_↔_, _⊎_}
@@ -9,12 +9,12 @@ use mathlib.Core.Option.{Option, some}
 use Prim.Native.Nat.{ℕ, _+_, _-_, _*_, _/_, _%_, _^_, _<_, _≤_}
 use lib.Dec.{eqb}
 use lib.ListN.{length, take, set}
-use Rattle.basis.specs.Pick.{pick}
+use Rattle.basis.specs.Pick.{pick, flag}
 use Rattle.basis.specs.Bytes.{byte, numAt, Bytes}
 use Rattle.rules_pdu.specs.Fields.{wire}
 use Rattle.rules_pdu.specs.Numbers.{goodWidth, H, F, C}
 use Rattle.rules_leaves.specs.Checksum.{crc16}
-use Rattle.rules_pdu.specs.Layout.{Said, metadata, fileData, eof, ackFinished, Heard, finished, ackEof, nak, keepAlive, Pdu, headBytes, layout, layoutHeard, trailer, encode, encodeHeard, pduLength}
+use Rattle.rules_pdu.specs.Layout.{Said, metadata, fileData, eof, ackFinished, Heard, finished, ackEof, nak, keepAlive, Pdu, headBytes, layout, layoutHeard, trailer, encode, encodeHeard, pduLength, writtenOf}
 use Rattle.rules_pdu.specs.Reading.{reserved, lengthIn, frameIn, framedIn, headIn, hIn, bodyIn, bodyOf, areTlvs, directiveIn, requestsFrom}
 use Rattle.rules_pdu.specs.Decoding.{decode, isEofIn}
 use Rattle.types.specs.declared.Head.{Head}
@@ -22,6 +22,7 @@ use Rattle.types.specs.declared.Frame.{Frame}
 use Rattle.types.specs.declared.Framed.{Framed}
 use Rattle.types.specs.declared.Framed.the-variants.{Malformed as NoFrame, Whole}
 use Rattle.types.specs.declared.SegmentRequest.{SegmentRequest}
+use Rattle.types.specs.declared.Written.the-variants.{Short, Wrote}
 use Rattle.types.specs.declared.Meaning.{Meaning}
 use Rattle.types.specs.declared.Meaning.the-variants.{Finished, AckOfEof, Nak, KeepAlive}
 use Rattle.types.specs.declared.Body.{Body}
@@ -81,6 +82,23 @@ abbrev pub LengthAgrees : Type 0
 LengthAgrees =
     (h : Head) (m : Said) → Fit h → Sayable (h .large) m
     → (length (encode h m) ≡ pduLength h m) × (H h + lengthIn (encode h m) ≡ length (encode h m))
+
+-- LAW spare-zero: "Spare bits, segmentation control and segment metadata flag are written 0": each byte that holds some is what its other bits make it.
+abbrev pub SpareZero : Type 0
+SpareZero =
+    (h : Head) → Fit h
+    -- header byte 3: "segmentation control (1), id width - 1 (3), segment metadata flag (1), sequence width - 1 (3)"
+    → ((m : Said) → byte (encode h m) 3 ≡ (h .source .0 - 1) * 16 + (h .number .0 - 1))
+    -- behind an EOF's code: "condition (4 bits), spare 4"
+    × ((c k n : ℕ) → c < 16 → byte (encode h (eof c k n)) (H h + 1) ≡ c * 16)
+    -- behind Metadata's: "reserved 1, closure 1 .., reserved 2, checksum type 4"
+    × ((closure : Bool) (type n : ℕ) (a b : List ℕ) → type < 16 → byte (encode h (metadata closure type n a b)) (H h + 1) ≡ flag closure * 64 + type)
+    -- behind an ACK's second byte: "condition 4, spare 2, status 2"
+    × ((c t : ℕ) → c < 16 → t < 4 → byte (encode h (ackFinished c t)) (H h + 2) ≡ c * 16 + t)
+
+-- LAW written-exactly: a writer's answer is that the buffer is too small exactly if the bytes are longer than it, and else their number.
+abbrev pub WrittenExactly : Type 0
+WrittenExactly = (bs out : List ℕ) → (length out < length bs → writtenOf bs out ≡ Short) × (length bs ≤ length out → writtenOf bs out ≡ Wrote (length bs))
 
 -- LAW headers-differ: two different headers of equal widths never have the same bytes.
 abbrev pub HeadersDiffer : Type 0
@@ -145,6 +163,16 @@ BodyExactly =
     (large : Bool) (b : List ℕ) → Bytes b
     → ((directiveIn large (byte b 0) b ≡ Malformed) ↔ ((r : Body) → ByLayout large b r → ⊥))
     × ((r : Body) → ByLayout large b r → directiveIn large (byte b 0) b ≡ r)
+
+-- LAW routed-exactly: file data is 21; a directive is Malformed exactly if the layouts give its body nothing, and else comes to what they give
+-- towards the sender, and to 21 towards the receiver.
+abbrev pub RoutedExactly : Type 0
+RoutedExactly =
+    (f : Frame) (b : List ℕ) → Bytes b
+    → (f .filedata ≡ true → bodyOf f b ≡ CantProcess)
+    × (f .filedata ≡ false → (bodyOf f b ≡ Malformed) ↔ ((r : Body) → ByLayout (f .head .large) b r → ⊥))
+    × (f .filedata ≡ false → (r : Body) → ByLayout (f .head .large) b r
+    → (f .tosender ≡ true → bodyOf f b ≡ r) × (f .tosender ≡ false → bodyOf f b ≡ CantProcess))
 
 -- LAW widths-exactly: "width 1, 2, 4 or 8 bytes"
 abbrev pub WidthsExactly : Type 0
