@@ -10,6 +10,7 @@ use native.Mathlib.Omega.{arith}
 use lib.ListN.{length, take, drop, length-take, length-drop}
 use lib.Seq.{take-add, drop-drop, take-all}
 use borrow.Author.Tests.{eq-eqb}
+use Rattle.basis.proofs.Pick.{flag-lt}
 use Rattle.rules_pdu.specs.Numbers.{F}
 use Rattle.rules_leaves.specs.Checksum.{sumOf}
 use Rattle.rules_pdu.specs.Layout.{fileData, Pdu}
@@ -58,11 +59,13 @@ module _ (w : Transfer) (c : Carries w) where
   pub taken-length : (a n : ℕ) → a + n ≤ length (w .file) → length (take n (drop a (w .file))) ≡ n
   taken-length a n h = simp (length-take, length-drop) (omega arith)
 
-  data-sayable : (a n : ℕ) → a + n ≤ length (w .file) → n ≤ w .segment → Sayable (w .head .large) (fileData a (take n (drop a (w .file))))
+  data-sayable : (a n : ℕ) → a + n ≤ length (w .file) → n ≤ w .segment → Sayable (w .head) (fileData a (take n (drop a (w .file))))
   data-sayable a n h l =
       let e = taken-length a n h in
       let z = c .size in
       let y = c .segment in
+      let u = flag-lt (w .head .large) in
+      let v = flag-lt (w .head .crc) in
       (omega arith, omega arith)
 
   data-read : (a n : ℕ) → a + n ≤ length (w .file) → n ≤ w .segment → decode (bytesOf w (FileData a n)) ≡ meant w (FileData a n)

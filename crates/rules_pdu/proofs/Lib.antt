@@ -6,4 +6,5 @@ pub mod Heard
 pub mod ExactBody
 pub mod Routed
 pub mod ExactFrame
+pub mod ExactSaid
 pub mod Numbers
