@@ -14,6 +14,7 @@ use Rattle.basis.proofs.Pick.{flag-lt}
 use Rattle.rules_pdu.specs.Numbers.{F}
 use Rattle.rules_leaves.specs.Checksum.{sumOf}
 use Rattle.rules_pdu.specs.Layout.{fileData, Pdu}
+use Rattle.rules_pdu.specs.Reading.{reserved}
 use Rattle.rules_pdu.specs.Decoding.{decode, isEofIn, fileDataOf}
 use Rattle.rules_pdu.specs.PduLaws.{Fit, Sayable}
 use Rattle.rules.specs.Tiles.{tiles}
@@ -72,7 +73,8 @@ module _ (w : Transfer) (c : Carries w) where
   data-read a n h l = round-trip (w .head) _ (c .fit) (data-sayable a n h l)
 
   pub last-read : decode (bytesOf w (lastly w)) ≡ meant w (lastly w)
-  last-read = round-trip (w .head) _ (c .fit) (omega arith, c .sum, c .size)
+  unfolding reserved
+  last-read = round-trip (w .head) _ (c .fit) (omega arith, refl, c .sum, c .size)
 
   pub all-read : (ps : List Sending) → Within (w .segment) (length (w .file)) ps → map decode (map (bytesOf w) ps) ≡ map (meant w) ps
   all-read [] h = refl

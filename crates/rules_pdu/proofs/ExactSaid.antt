@@ -1,107 +1,37 @@
--- Bytes are read as a sender's PDU exactly if they are one by the layouts. Bits that are not judged change no reading; what is read stands, field
--- before field from the end, where the layout puts it.
+-- Bytes are read as a sender's PDU exactly if they are one by the layouts: what is read stands, field before field from the end, where the layout puts it.
 -- Assumes nothing.
 use mathlib.Core.Path.{_≡_, refl, sym, ap, subst, _∙_}
 use mathlib.Core.Bool.{Bool, true, false, false≢true}
-use mathlib.Core.List.{List, [], _∷_, _++_, append-nil}
+use mathlib.Core.List.{List, [], _∷_, append-nil}
 use mathlib.Core.Option.{Option, none, some}
 use Prim.Native.Nat.{ℕ, zero, suc, _+_, _-_, _*_, _/_, _%_, _^_, _<_, _≤_}
 use native.Mathlib.Nat.{zero-add}
 use native.Mathlib.Omega.{arith}
-use lib.ListN.{length, take, drop, set, take-append-drop, length-take, length-drop, length-set}
-use lib.Seq.{drop-drop, drop-length, drop-set-lt, getD-set-other}
+use lib.ListN.{length, drop, set, take-append-drop, length-take, length-drop}
+use lib.Seq.{drop-drop, drop-length}
 use lib.Dec.{eqb, leb}
 use borrow.Author.Tests.{eqb-true, leb-true}
-use Rattle.basis.specs.Pick.{pick, flag}
+use Rattle.basis.specs.Pick.{pick, _and_, not}
 use Rattle.basis.specs.Bytes.{be, num, part, byte, numAt, Bytes}
-use Rattle.basis.proofs.Pick.{cases}
+use Rattle.basis.proofs.Pick.{denied, both, cases}
 use Rattle.basis.proofs.Bytes.{be-num, num-lt, byte-num}
 use Rattle.rules_pdu.specs.Fields.{Field, nat, raw, wire}
-use Rattle.rules_pdu.specs.Numbers.{H, F, C}
-use Rattle.rules_pdu.specs.Layout.{Said, metadata, fileData, eof, ackFinished, layout, isFileData, Pdu}
-use Rattle.rules_pdu.specs.Reading.{bitIn, wellFramed, hIn, bodyEnd, bodyIn}
+use Rattle.rules_pdu.specs.Numbers.{F, C}
+use Rattle.rules_pdu.specs.Layout.{Said, ackFinished, layout, isFileData, Pdu}
+use Rattle.rules_pdu.specs.Reading.{wellFramed, hIn, bodyEnd, bodyIn, reserved}
 use Rattle.rules_pdu.specs.Decoding.{metadataIn, dataIn, eofIn, ackFinishedIn, saidIn, withHead, decode}
 use Rattle.rules_pdu.specs.PduLaws.{Sayable, cleared, IsPdu, IsSaid, DecodeExactly}
 use Rattle.types.specs.declared.Head.{Head}
 use Rattle.types.specs.declared.Frame.{Frame}
 use Rattle.rules_pdu.proofs.Places.{At, at-start}
-use Rattle.rules_pdu.proofs.Round.{Frames, body-read, decode-read, said-read}
+use Rattle.rules_pdu.proofs.Round.{body-read, decode-read, said-read}
 use Rattle.rules_pdu.proofs.Heard.{one-byte}
-use Rattle.rules_pdu.proofs.ExactBody.{code-set, bytes-take, bytes-drop}
+use Rattle.rules_pdu.proofs.ExactBody.{bytes-take, bytes-drop}
+use Rattle.rules_pdu.proofs.Unjudged.{said-spare}
 use Rattle.rules_pdu.proofs.ExactFrame.{frames, tests, flag-bit, some-pdu}
 
--- ---- bits that are not judged change no reading
+-- ---- what the layouts give is read
 
--- a byte that is set with what f sees of it kept
-kept : {A : Type 0} (f : ℕ → A) (b : List ℕ) (i v : ℕ) → f v ≡ f (byte b i) → f (byte (set b i v) i) ≡ f (byte b i)
-unfolding byte
-kept f [] i v e = refl
-kept f (x ∷ b) zero v e = e
-kept f (x ∷ b) (suc i) v e = kept f b i v e
-
-module _ (b : List ℕ) (i v j : ℕ) (l : i < j) where
-  byte-behind : byte (set b i v) j ≡ byte b j
-  unfolding byte
-  byte-behind = getD-set-other b i j v 0 (λ e. omega arith)
-
-  part-behind : (n : ℕ) → part (set b i v) j n ≡ part b j n
-  unfolding part
-  part-behind n = ap (take n) (drop-set-lt j b i v l)
-
-  num-behind : (w : ℕ) → numAt (set b i v) j w ≡ numAt b j w
-  unfolding numAt
-  num-behind w = ap num (part-behind w)
-
-eof-spare : (large : Bool) (b : List ℕ) → eofIn large (set b 1 (byte b 1 / 16 * 16)) ≡ eofIn large b
-unfolding eofIn
-eof-spare large b =
-    let v = byte b 1 / 16 * 16 in
-    simp (length-set, kept (λ (x : ℕ). x / 16) b 1 v (omega arith), num-behind b 1 v 2 (omega arith) 4, num-behind b 1 v 6 (omega arith) (F large))
-
-ack-spare : (b : List ℕ) → ackFinishedIn (set b 2 (byte b 2 / 16 * 16 + byte b 2 % 4)) ≡ ackFinishedIn b
-unfolding ackFinishedIn byte
-ack-spare [] = refl
-ack-spare (c ∷ []) = refl
-ack-spare (c ∷ y ∷ []) = refl
-ack-spare (c ∷ y ∷ x ∷ s) =
-    let p : (x / 16 * 16 + x % 4) / 16 ≡ x / 16 = omega arith in
-    let q : (x / 16 * 16 + x % 4) % 4 ≡ x % 4 = omega arith in
-    rw (p, q)
-
-closure-bit : (x : ℕ) → bitIn (x / 64 % 2 * 64 + x % 16) 64 ≡ bitIn x 64
-unfolding bitIn
-closure-bit x = let e : (x / 64 % 2 * 64 + x % 16) / 64 % 2 ≡ x / 64 % 2 = omega arith in rw e
-
-metadata-spare : (large : Bool) (b : List ℕ) → metadataIn large (set b 1 (byte b 1 / 64 % 2 * 64 + byte b 1 % 16)) ≡ metadataIn large b
-unfolding metadataIn
-metadata-spare large b =
-    let v = byte b 1 / 64 % 2 * 64 + byte b 1 % 16 in
-    let n = byte b (2 + F large) in
-    simp (
-      length-set,
-      kept (λ (x : ℕ). bitIn x 64) b 1 v (closure-bit (byte b 1)),
-      kept (λ (x : ℕ). x % 16) b 1 v (omega arith),
-      byte-behind b 1 v (2 + F large) (omega arith),
-      byte-behind b 1 v (2 + F large + 1 + n) (omega arith),
-      num-behind b 1 v 2 (omega arith) (F large),
-      part-behind b 1 v (2 + F large + 1) (omega arith) n,
-      part-behind b 1 v (2 + F large + 1 + n + 1) (omega arith) (byte b (2 + F large + 1 + n)),
-    )
-
-said-spare : (large : Bool) (b : List ℕ) → saidIn false large (cleared b) ≡ saidIn false large b
-unfolding cleared saidIn
-said-spare large b =
-    let P : List ℕ → Type 0 = λ (c : List ℕ). saidIn false large c ≡ saidIn false large b in
-    let t = byte b 1 / 16 * 16 in
-    let u = byte b 1 / 16 * 16 + byte b 1 % 8 in
-    let v = byte b 2 / 16 * 16 + byte b 2 % 4 in
-    let w = byte b 1 / 64 % 2 * 64 + byte b 1 % 16 in
-    cases P (eqb (byte b 0) 4) (set b 1 t) _ (λ e. let c = eqb-true (byte b 0) 4 e in simp (code-set b 0 t ∙ c, c, eof-spare))
-    (λ n. cases P (eqb (byte b 0) 5) (set b 1 u) _ (λ e. let c = eqb-true (byte b 0) 5 e in simp (code-set b 0 u ∙ c, c))
-    (λ n. cases P (eqb (byte b 0) 6) (set b 2 v) _ (λ e. let c = eqb-true (byte b 0) 6 e in simp (code-set b 1 v ∙ c, c, ack-spare))
-    (λ n. cases P (eqb (byte b 0) 7) (set b 1 w) b (λ e. let c = eqb-true (byte b 0) 7 e in simp (code-set b 0 w ∙ c, c, metadata-spare)) (λ n. refl))))
-
--- what the layouts give is read
 is-read : {s : List ℕ} {p : Pdu} → Bytes s → IsSaid s p → decode s ≡ some p
 is-read {s} {p} y i =
     decode-read (frames y (i .framed))
@@ -180,28 +110,39 @@ unfolding eofIn cleared
 eof-given h b y c =
     let w = F (h .large) in
     let z = byte-small b 1 y in
-    cases (Given h false b) (eqb (length b) (6 + w)) _ _
-    (λ t. let k = eqb-true (length b) (6 + w) t in
-    let p = number-before b y 2 4 (omega arith) (number-before b y 6 w (omega arith) (at-end k)) in (
+    cases (Given h false b) (eqb (length b) (6 + w) and not (reserved (byte b 1 / 16))) _ _
+    (λ t. let u = both (eqb (length b) (6 + w)) (not (reserved (byte b 1 / 16))) t in
+    let k = eqb-true (length b) (6 + w) (u .0) in
+    let p = number-before b y 2 4 (omega (arith, k)) (number-before b y 6 w (omega (arith, k)) (at-end k)) in (
       refl,
-      (omega arith, num-small b y 2 4 (omega arith), num-small b y 6 w (omega arith)),
-      rw c (opening b _ 4 (byte b 1 / 16 * 16) (omega arith) c (omega arith) (omega arith) p),
+      (omega arith, denied (reserved (byte b 1 / 16)) (u .1), num-small b y 2 4 (omega (arith, k)), num-small b y 6 w (omega (arith, k))),
+      rw c (opening b _ 4 (byte b 1 / 16 * 16) (omega (arith, k)) c (omega arith) (omega arith) p),
     ))
     (λ t. tt)
 
+-- the bytes of an ACK of Finished
+ack-whole : (h : Head) (b : List ℕ) → Bytes b → byte b 0 ≡ 6 → length b ≡ 3 → byte b 1 ≡ 0x51
+    → wire (layout (h .large) (ackFinished (byte b 2 / 16) (byte b 2 % 4))) ≡ set b 2 (byte b 2 / 16 * 16 + byte b 2 % 4)
+unfolding byte
+ack-whole h [] y c l a = absurd (omega arith)
+ack-whole h (d ∷ []) y c l a = absurd (omega arith)
+ack-whole h (d ∷ k ∷ []) y c l a = absurd (omega arith)
+ack-whole h (d ∷ k ∷ x ∷ []) y c l a =
+    rw (c, a, one-byte 6 (omega arith), one-byte 0x51 (omega arith), one-byte (x / 16 * 16 + x % 4) (omega arith))
+ack-whole h (d ∷ k ∷ x ∷ z ∷ s) y c l a = absurd (omega arith)
+
 ack-given : (h : Head) (b : List ℕ) → Bytes b → byte b 0 ≡ 6 → Given h false b (ackFinishedIn b)
-unfolding ackFinishedIn cleared byte
-ack-given h [] y c = tt
-ack-given h (d ∷ []) y c = tt
-ack-given h (d ∷ a ∷ []) y c = tt
-ack-given h (d ∷ a ∷ x ∷ []) y c =
-    let v = x / 16 * 16 + x % 4 in
-    cases (Given h false (d ∷ a ∷ x ∷ [])) (eqb a 0x51) _ _
-    (λ t. (refl, (omega arith, omega arith), rw (c, eqb-true a 0x51 t, one-byte 6 (omega arith), one-byte 0x51 (omega arith), one-byte v (omega arith))))
+unfolding ackFinishedIn cleared
+ack-given h b y c =
+    let z = byte-small b 2 y in
+    cases (Given h false b) (eqb (length b) 3 and eqb (byte b 1) 0x51 and not (reserved (byte b 2 / 16))) _ _
+    (λ t. let u = both (eqb (length b) 3) _ t in
+    let v = both (eqb (byte b 1) 0x51) _ (u .1) in (
+      refl,
+      (omega arith, denied (reserved (byte b 2 / 16)) (v .1), omega arith),
+      rw c (ack-whole h b y c (eqb-true (length b) 3 (u .0)) (eqb-true (byte b 1) 0x51 (v .0))),
+    ))
     (λ t. tt)
-ack-given h (d ∷ a ∷ x ∷ z ∷ s) y c =
-    cases (Given h false (d ∷ a ∷ x ∷ z ∷ s)) (eqb (length (d ∷ a ∷ x ∷ z ∷ s)) 3) _ _
-    (λ t. let l = eqb-true (length (d ∷ a ∷ x ∷ z ∷ s)) 3 t in absurd (omega arith)) (λ t. tt)
 
 -- behind the size, two names of n and m bytes
 names-given : (b : List ℕ) (w n m : ℕ) → Bytes b → length b ≡ 4 + w + n + m → byte b (2 + w) ≡ n → byte b (2 + w + 1 + n) ≡ m

@@ -5,6 +5,7 @@ pub mod Writes
 pub mod Heard
 pub mod ExactBody
 pub mod Routed
+pub mod Unjudged
 pub mod ExactFrame
 pub mod ExactSaid
 pub mod Numbers

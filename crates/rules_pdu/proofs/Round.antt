@@ -306,18 +306,18 @@ eof-read {s} h {c} {k} {n} p y =
     let b : byte s 1 ≡ c * 16 = eof-byte [] (h .large) c k n p (y .0) in
     let q : c * 16 / 16 ≡ c = omega arith in
     let e : length s ≡ 6 + F (h .large) = whole-length p ∙ omega arith in
-    simp (eq-eqb _ _ e, b, q, num-at (past (past p)) (y .1), num-at (past (past (past p))) (y .2))
+    simp (eq-eqb _ _ e, b, q, y .1, num-at (past (past p)) (y .2), num-at (past (past (past p))) (y .3))
 
 ack-read : {s : List ℕ} (h : Head) {c t : ℕ} → At s 0 (layout (h .large) (ackFinished c t)) → Sayable h (ackFinished c t)
     → ackFinishedIn s ≡ some (ackFinished c t)
 unfolding ackFinishedIn
 ack-read {s} h {c} {t} p y =
     let a : byte s 1 ≡ 0x51 = byte-at (past p) (omega arith) in
-    let b : byte s 2 ≡ c * 16 + t = ack-byte [] (h .large) c t p (y .0) (y .1) in
+    let b : byte s 2 ≡ c * 16 + t = ack-byte [] (h .large) c t p (y .0) (y .2) in
     let q : (c * 16 + t) / 16 ≡ c = omega arith in
     let r : (c * 16 + t) % 4 ≡ t = omega arith in
     let e : length s ≡ 3 = whole-length p in
-    simp (e, a, b, q, r)
+    simp (e, a, b, q, r, y .1)
 
 pub said-read : {s : List ℕ} (h : Head) (m : Said) → At s 0 (layout (h .large) m) → Sayable h m → saidIn (isFileData m) (h .large) s ≡ some m
 unfolding saidIn

@@ -66,11 +66,11 @@ unfolding be headBytes trailer pduBytes bodyBytes encode crc16 crc16Byte
 written = refl
 
 pub read : map decode onTheLink ≡ map some sent
-unfolding num part byte numAt goodWidth bitIn versionIn fileDataIn toSenderIn unacknowledgedIn crcIn largeIn lengthIn idWidthIn seqWidthIn headIn bodyIn crcAgrees crcGood wellFramed metadataIn dataIn eofIn ackFinishedIn saidIn decode crc16 crc16Byte
+unfolding num part byte numAt goodWidth bitIn versionIn fileDataIn toSenderIn unacknowledgedIn crcIn largeIn lengthIn idWidthIn seqWidthIn headIn bodyIn crcAgrees crcGood wellFramed reserved metadataIn dataIn eofIn ackFinishedIn saidIn decode crc16 crc16Byte
 read = refl
 
 -- what is no sender's PDU: M1 whose second name ends behind the body; M4 with a byte more; M8 with subtype 0, and towards the sender;
--- file data that ends inside its offset; another code
+-- file data that ends inside its offset; another code; M4 with condition 12, M8 with condition 13
 abbrev pub noPdu : List (List ℕ)
 noPdu =
     (0x24 ∷ 0x00 ∷ 0x0A ∷ 0x00 ∷ 0x01 ∷ 0x07 ∷ 0x02 ∷ 0x07 ∷ 0x00 ∷ 0x00 ∷ 0x00 ∷ 0x00 ∷ 0x05 ∷ 0x01 ∷ 0x61 ∷ 0x02 ∷ 0x62 ∷ [])
@@ -79,10 +79,12 @@ noPdu =
     ∷ (0x28 ∷ 0x00 ∷ 0x03 ∷ 0x00 ∷ 0x01 ∷ 0x07 ∷ 0x02 ∷ 0x06 ∷ 0x51 ∷ 0x01 ∷ [])
     ∷ (0x34 ∷ 0x00 ∷ 0x03 ∷ 0x00 ∷ 0x01 ∷ 0x07 ∷ 0x02 ∷ 0x00 ∷ 0x00 ∷ 0x00 ∷ [])
     ∷ (0x20 ∷ 0x00 ∷ 0x02 ∷ 0x00 ∷ 0x01 ∷ 0x07 ∷ 0x02 ∷ 0x05 ∷ 0x00 ∷ [])
+    ∷ (0x24 ∷ 0x00 ∷ 0x0A ∷ 0x00 ∷ 0x01 ∷ 0x07 ∷ 0x02 ∷ 0x04 ∷ 0xC0 ∷ 0x86 ∷ 0x42 ∷ 0x43 ∷ 0x44 ∷ 0x00 ∷ 0x00 ∷ 0x00 ∷ 0x05 ∷ [])
+    ∷ (0x20 ∷ 0x00 ∷ 0x03 ∷ 0x00 ∷ 0x01 ∷ 0x07 ∷ 0x02 ∷ 0x06 ∷ 0x51 ∷ 0xD1 ∷ [])
     ∷ []
 
 pub unread : map decode noPdu ≡ map (λ (s : List ℕ). none) noPdu
-unfolding num part byte numAt goodWidth bitIn versionIn fileDataIn toSenderIn unacknowledgedIn crcIn largeIn lengthIn idWidthIn seqWidthIn headIn bodyIn crcAgrees crcGood wellFramed metadataIn dataIn eofIn ackFinishedIn saidIn decode
+unfolding num part byte numAt goodWidth bitIn versionIn fileDataIn toSenderIn unacknowledgedIn crcIn largeIn lengthIn idWidthIn seqWidthIn headIn bodyIn crcAgrees crcGood wellFramed reserved metadataIn dataIn eofIn ackFinishedIn saidIn decode
 unread = refl
 
 -- ---- deliveries, and what each comes to

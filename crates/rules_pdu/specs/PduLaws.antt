@@ -39,12 +39,12 @@ pub record Fit (h : Head) : Type 0 where
   pub number : h .number .1 < 2 ^ (8 * h .number .0)
   pub destination : h .destination .1 < 2 ^ (8 * h .source .0)
 
--- values that fit their fields; file data that fits the data field
+-- values that fit their fields; file data that fits the data field; conditions that are not reserved
 abbrev pub Sayable : Head → Said → Type 0
 Sayable h (metadata closure type n a b) = (type < 16) × (n < 2 ^ (8 * F (h .large))) × (length a < 256) × (length b < 256)
 Sayable h (fileData o bs) = (o < 2 ^ (8 * F (h .large))) × (F (h .large) + length bs + C (h .crc) < 65536)
-Sayable h (eof c k n) = (c < 16) × (k < 2 ^ 32) × (n < 2 ^ (8 * F (h .large)))
-Sayable h (ackFinished c t) = (c < 16) × (t < 4)
+Sayable h (eof c k n) = (c < 16) × (reserved c ≡ false) × (k < 2 ^ 32) × (n < 2 ^ (8 * F (h .large)))
+Sayable h (ackFinished c t) = (c < 16) × (reserved c ≡ false) × (t < 4)
 
 abbrev pub GoodTlvs : List (ℕ × List ℕ) → Type 0
 GoodTlvs [] = Unit {0}
