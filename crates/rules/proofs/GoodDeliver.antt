@@ -55,10 +55,10 @@ byte-lt [] i h = omega arith
 byte-lt (b ∷ s) zero h = h .0
 byte-lt (b ∷ s) (suc i) h = byte-lt s i (h .1)
 
--- ---- a Finished PDU's condition has four bits
+-- ---- a Finished PDU's condition has four bits and is not reserved
 
 abbrev Small : Meaning → Type 0
-Small (Finished p) = p .condition < 16
+Small (Finished p) = (p .condition < 16) × (reserved (p .condition) ≡ false)
 Small AckOfEof = Unit {0}
 Small (Nak n) = Unit {0}
 Small (KeepAlive p) = Unit {0}
@@ -74,7 +74,7 @@ module _ (b : List ℕ) (h : Bytes b) where
   finished-small =
       cases SmallBody (ltb (length b) 2) _ _ (λ _. tt)
       (λ _. cases SmallBody (reserved (getD b 1 0 / 16)) _ _ (λ _. tt)
-      (λ _. cases SmallBody (areTlvs (drop 2 b)) _ _ (λ _. let x = byte-lt b 1 h in omega arith) (λ _. tt)))
+      (λ r. cases SmallBody (areTlvs (drop 2 b)) _ _ (λ _. let x = byte-lt b 1 h in (omega arith, r)) (λ _. tt)))
 
   ack-small : SmallBody (ackIn b)
   unfolding ackIn
@@ -156,7 +156,7 @@ module _ (s : State) (g : Good s) where
         here = queues-at s (s .step) (pushAll (s .queue) rs) i m c (g .here);
       }
 
-  finished-good : (p : FinishedParams) → p .condition < 16 → At WaitingForFinished s → Good (finishedOf s p)
+  finished-good : (p : FinishedParams) → Small (Finished p) → At WaitingForFinished s → Good (finishedOf s p)
   finished-good p l w =
       record {
         queue = good-empty (s .file .progress);

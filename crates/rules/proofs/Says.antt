@@ -1,11 +1,11 @@
 -- What leaves decodes to the PDU that document 01 names: in a good state it can be said, so reading what was written gives it back.
 -- Assumes nothing.
 use mathlib.Core.Path.{_≡_, refl, sym, ap, subst, _∙_}
-use mathlib.Core.Logic.{_↔_, inl, inr, ⊎-elim}
+use mathlib.Core.Logic.{_↔_, _⊎_, inl, inr, ⊎-elim}
 use mathlib.Core.Bool.{Bool, true, false, true≢false, false≢true}
 use mathlib.Core.List.{List, [], _∷_, _++_}
 use mathlib.Core.Option.{Option, none, some}
-use Prim.Native.Nat.{ℕ, _-_, _*_, _^_, _<_, _≤_, min}
+use Prim.Native.Nat.{ℕ, _+_, _-_, _*_, _^_, _<_, _≤_, min}
 use native.Mathlib.Omega.{arith}
 use borrow.Author.Tests.{eqb-true, ltb-true, ltb-false}
 use lib.Dec.{eqb, ltb}
@@ -14,13 +14,13 @@ use lib.Seq.{take-all}
 use Rattle.basis.specs.Pick.{pick, _and_, _or_, not}
 use Rattle.basis.specs.Bytes.{Bytes}
 use Rattle.basis.specs.Laid.{inFront}
-use Rattle.basis.proofs.Pick.{cases}
+use Rattle.basis.proofs.Pick.{cases, flag-lt}
 use Rattle.basis.proofs.Laid.{front, in-front, taken}
 use Rattle.rules_leaves.specs.Checksum.{sumOf}
 use Rattle.rules_leaves.proofs.Sums.{sum-lt}
-use Rattle.rules_pdu.specs.Numbers.{F}
+use Rattle.rules_pdu.specs.Numbers.{F, C}
 use Rattle.rules_pdu.specs.Layout.{Said, eof, ackFinished, encode}
-use Rattle.rules_pdu.specs.Reading.{wellFramed}
+use Rattle.rules_pdu.specs.Reading.{wellFramed, reserved}
 use Rattle.rules_pdu.specs.Decoding.{withHead, decode}
 use Rattle.rules_pdu.specs.PduLaws.{Fit, Sayable}
 use Rattle.rules_pdu.proofs.Round.{round-trip, size-fits}
@@ -66,7 +66,7 @@ written h (some m) = encode h m
 
 abbrev Can : Head → Option Said → Type 0
 Can h none = Unit {0}
-Can h (some m) = Fit h × Sayable (h .large) m
+Can h (some m) = Fit h × Sayable h m
 
 decode-written : (h : Head) (x : Option Said) → Can h x → decode (written h x) ≡ withHead h x
 unfolding decode wellFramed
@@ -84,8 +84,22 @@ type-small t (inr (inr (inr e))) = omega arith
 name-small : (array : List ℕ) (n : ℕ) → GoodName array n → length (take n array) < 256
 name-small array n g = let m = g .most in rw (length-take n array) (omega arith)
 
-some-small : (L n : ℕ) (l : List ℕ) → L ≤ 4096 → length (take (min L n) l) < 65000
-some-small L n l h = rw (length-take (min L n) l) (omega arith)
+some-small : (h : Head) (L n : ℕ) (l : List ℕ) → L ≤ 4096 → F (h .large) + length (take (min L n) l) + C (h .crc) < 65536
+some-small h L n l k =
+    let u = flag-lt (h .large) in
+    let v = flag-lt (h .crc) in
+    rw (length-take (min L n) l) (omega arith)
+
+-- the conditions that an EOF of ours can have
+abbrev Ours : ℕ → Type 0
+Ours c = (c ≡ 0) ⊎ (c ≡ 1) ⊎ (c ≡ 10) ⊎ (c ≡ 15)
+
+unreserved : (c : ℕ) → Ours c → (c < 16) × (reserved c ≡ false)
+unfolding reserved
+unreserved c (inl e) = rw e (omega arith, refl)
+unreserved c (inr (inl e)) = rw e (omega arith, refl)
+unreserved c (inr (inr (inl e))) = rw e (omega arith, refl)
+unreserved c (inr (inr (inr e))) = rw e (omega arith, refl)
 
 module _ (s : State) (file : List ℕ) (g : Good s) (y : Bytes file) where
   h : Head
@@ -98,9 +112,9 @@ module _ (s : State) (file : List ℕ) (g : Good s) (y : Bytes file) where
   sum-small : (n : ℕ) → sumOf (s .fixed .checksum) (take n file) < 2 ^ 32
   sum-small n = sum-lt (s .fixed .checksum) (take n file) (bytes-take n file y)
 
-  can-eof : (c : ℕ) → c < 16 → Under s → Can h (some (eofOfSent s file c))
+  can-eof : (c : ℕ) → Ours c → Under s → Can h (some (eofOfSent s file c))
   unfolding h
-  can-eof c l u = (u .fixed .head, (l, sum-small (s .file .progress), place (s .file .progress) u (g .progress)))
+  can-eof c o u = (u .fixed .head, (unreserved c o .0, unreserved c o .1, sum-small (s .file .progress), place (s .file .progress) u (g .progress)))
 
   can-metadata : Under s → Can h (some (itsMetadata s))
   unfolding h
@@ -109,9 +123,9 @@ module _ (s : State) (file : List ℕ) (g : Good s) (y : Bytes file) where
 
   can-bytes : (o n : ℕ) → Under s → o ≤ s .fixed .size → Can h (some (bytesAt file o (min (s .fixed .segment) n)))
   unfolding h
-  can-bytes o n u l = (u .fixed .head, (place o u l, some-small (s .fixed .segment) n (drop o file) (let r = u .fixed .room in omega arith)))
+  can-bytes o n u l = (u .fixed .head, (place o u l, some-small (s .fixed .head) (s .fixed .segment) n (drop o file) (let r = u .fixed .room in omega arith)))
 
-  can-fault : (c : ℕ) → c < 16 → Under s → (d : Due) → Declared s c d → Can h (named s file d)
+  can-fault : (c : ℕ) → Ours c → Under s → (d : Due) → Declared s c d → Can h (named s file d)
   can-fault c l u _ (cancels e a) = can-eof c l u
   can-fault c l u _ (ignores e a) = tt
   can-fault c l u _ (abandons e a b) = tt
@@ -155,35 +169,35 @@ module _ (s : State) (file : List ℕ) (g : Good s) (y : Bytes file) where
       go true o = absurd (true≢false (sym (g .marks .owed o) ∙ e))
       go false o = refl
 
-  condition-small : s .marks .condition < 16
-  condition-small = go (s .marks .cancelled) refl
+  condition-ours : Ours (s .marks .condition)
+  condition-ours = go (s .marks .cancelled) refl
     where
-      go : (b : Bool) → s .marks .cancelled ≡ b → s .marks .condition < 16
-      go true e = ⊎-elim (λ z. omega arith) (λ z. omega arith) (g .marks .condition e)
-      go false e = let z = g .marks .noError e in omega arith
+      go : (b : Bool) → s .marks .cancelled ≡ b → Ours (s .marks .condition)
+      go true e = ⊎-elim (λ z. inr (inl z)) (λ z. inr (inr (inr z))) (g .marks .condition e)
+      go false e = inl (g .marks .noError e)
 
   can-again : NoneOwed s → At WaitingForEofAck s → Can h (named s file EofAgain)
   unfolding h
   can-again n p =
       let k = p .3 (not-owed n) in
-      (p .0 .fixed .head, (rw (k .1) condition-small, g .sum, place (s .file .eof .size) (p .0) (rw (k .0) (g .progress))))
+      (p .0 .fixed .head, (rw (k .1) (unreserved _ condition-ours .0), rw (k .1) (unreserved _ condition-ours .1), g .sum, place (s .file .eof .size) (p .0) (rw (k .0) (g .progress))))
 
   can-close : At Closing s → Can h (named s file Close)
   unfolding h
   can-close p =
       cases (Can h) (s .fixed .head .unacknowledged) none (some (ackFinished (s .marks .finished .condition) 1)) (λ _. tt)
-      (λ _. (p .0 .fixed .head, (g .marks .finished, omega arith)))
+      (λ _. (p .0 .fixed .head, (g .marks .finished .0, g .marks .finished .1, omega arith)))
 
   can-say : (expired : Bool) (d : Due) → Applies s expired d → Can h (named s file d)
   unfolding h
-  can-say expired _ (item-1 c o) = can-eof (s .marks .condition) condition-small (under (s .step) s (g .here) c)
+  can-say expired _ (item-1 c o) = can-eof (s .marks .condition) condition-ours (under (s .step) s (g .here) c)
   can-say expired _ (item-2 n p) = can-answer (pending (s .queue)) (under-pending (s .step) (g .here) p) (g .queue .owing)
   can-say expired _ (item-3 f e) = can-metadata (at SendingMetadata e .0)
   can-say expired _ (item-4 f e) = can-bytes (s .file .progress) (s .fixed .size - s .file .progress) (at SendingFileData e .0) (g .progress)
-  can-say expired _ (item-5 f e) = let u = at SendingEof e .0 in (u .fixed .head, (omega arith, sum-lt (s .fixed .checksum) file y, place (s .fixed .size) u (omega arith)))
+  can-say expired _ (item-5 f e) = let u = at SendingEof e .0 in (u .fixed .head, (unreserved 0 (inl refl) .0, unreserved 0 (inl refl) .1, sum-lt (s .fixed .checksum) file y, place (s .fixed .size) u (omega arith)))
   can-say expired _ (item-6-again f e x l) = can-again (f .0) (at WaitingForEofAck e)
-  can-say expired d (item-6-fault f e x l k) = can-fault 1 (omega arith) (at WaitingForEofAck e .0) d k
-  can-say expired d (item-7 f e u x k) = can-fault 10 (omega arith) (at WaitingForFinished e .0) d k
+  can-say expired d (item-6-fault f e x l k) = can-fault 1 (inr (inl refl)) (at WaitingForEofAck e .0) d k
+  can-say expired d (item-7 f e u x k) = can-fault 10 (inr (inr (inl refl))) (at WaitingForFinished e .0) d k
   can-say expired _ (item-8 f e) = can-close (at Closing e)
   can-say expired _ (item-9 f w) = tt
 

@@ -9,9 +9,11 @@ use Prim.Native.Nat.{ℕ, _+_, _-_, _*_, _^_, _≤_, _<_}
 use native.Mathlib.Omega.{arith}
 use lib.ListN.{length, take, drop, length-take, length-drop}
 use lib.Seq.{take-add, drop-drop, take-all}
+use Rattle.basis.proofs.Pick.{flag-lt}
 use Rattle.rules_pdu.specs.Numbers.{F}
 use Rattle.rules_leaves.specs.Checksum.{sumOf}
 use Rattle.rules_pdu.specs.Layout.{fileData, Pdu}
+use Rattle.rules_pdu.specs.Reading.{reserved}
 use Rattle.rules_pdu.specs.Decoding.{decode, isEofIn, fileDataOf}
 use Rattle.rules_pdu.specs.PduLaws.{Fit, Sayable}
 use Rattle.rules.specs.Tiles.{tiles}
@@ -57,18 +59,21 @@ module _ (w : Transfer) (c : Carries w) where
   pub taken-length : (a n : ℕ) → a + n ≤ length (w .file) → length (take n (drop a (w .file))) ≡ n
   taken-length a n h = simp (length-take, length-drop) (omega arith)
 
-  data-sayable : (a n : ℕ) → a + n ≤ length (w .file) → n ≤ w .segment → Sayable (w .head .large) (fileData a (take n (drop a (w .file))))
+  data-sayable : (a n : ℕ) → a + n ≤ length (w .file) → n ≤ w .segment → Sayable (w .head) (fileData a (take n (drop a (w .file))))
   data-sayable a n h l =
       let e = taken-length a n h in
       let z = c .size in
       let y = c .segment in
+      let u = flag-lt (w .head .large) in
+      let v = flag-lt (w .head .crc) in
       (omega arith, omega arith)
 
   data-read : (a n : ℕ) → a + n ≤ length (w .file) → n ≤ w .segment → decode (bytesOf w (FileData a n)) ≡ meant w (FileData a n)
   data-read a n h l = round-trip (w .head) _ (c .fit) (data-sayable a n h l)
 
   pub last-read : decode (bytesOf w (lastly w)) ≡ meant w (lastly w)
-  last-read = round-trip (w .head) _ (c .fit) (omega arith, c .sum, c .size)
+  unfolding reserved
+  last-read = round-trip (w .head) _ (c .fit) (omega arith, refl, c .sum, c .size)
 
   pub all-read : (ps : List Sending) → Within (w .segment) (length (w .file)) ps → map decode (map (bytesOf w) ps) ≡ map (meant w) ps
   all-read [] h = refl

@@ -11,6 +11,7 @@ use Rattle.basis.specs.Bytes.{Bytes}
 use Rattle.rules_pdu.specs.Numbers.{numberAfter, isLarge, H, F, C}
 use Rattle.rules_leaves.specs.Utf8.{Utf8}
 use Rattle.rules_pdu.specs.Layout.{metadata, encode}
+use Rattle.rules_pdu.specs.Reading.{reserved}
 use Rattle.rules_pdu.specs.PduLaws.{Fit}
 use Rattle.rules.specs.States.{blank, emptyQueue, noFile, idle, sourceName, destinationName}
 use Rattle.rules.specs.Queues.{pending, owes}
@@ -85,7 +86,8 @@ pub record GoodMarks (m : Marks) : Type 0 where
   pub owed : m .owed ≡ true → m .cancelled ≡ true
   pub noError : m .cancelled ≡ false → m .condition ≡ 0
   pub condition : m .cancelled ≡ true → (m .condition ≡ 1) ⊎ (m .condition ≡ 15)
-  pub finished : m .finished .condition < 16
+  -- a Finished PDU's condition was judged when it was read: the ACK that carries it is one that the other side reads
+  pub finished : (m .finished .condition < 16) × (reserved (m .finished .condition) ≡ false)
   pub anomalies : m .anomalies ≡ 0
 
 -- ---- by the step

@@ -25,6 +25,7 @@ use Rattle.types.specs.declared.Meaning.the-variants.{Finished, AckOfEof, Nak, 
 use Rattle.types.specs.declared.Body.{Body}
 use Rattle.types.specs.declared.Body.the-variants.{Malformed, CantProcess, Means}
 use Rattle.rules_pdu.proofs.Places.{At, at-start, past, byte-at, whole-length}
+use Rattle.rules_pdu.proofs.Spare.{ack-byte}
 use Rattle.rules_pdu.proofs.Heard.{tlvs-exactly, one-byte, heard-body}
 
 pub reserved-exactly : ReservedExactly
@@ -57,7 +58,7 @@ ack-cleared (c ∷ []) = refl
 ack-cleared (c ∷ y ∷ []) = refl
 ack-cleared (c ∷ y ∷ x ∷ s) = let z : (x / 16 * 16 + x % 4) / 16 ≡ x / 16 = omega arith in rw z
 
-code-set : (b : List ℕ) (i v : ℕ) → byte (set b (suc i) v) 0 ≡ byte b 0
+pub code-set : (b : List ℕ) (i v : ℕ) → byte (set b (suc i) v) 0 ≡ byte b 0
 unfolding byte
 code-set [] i v = refl
 code-set (c ∷ b) i v = refl
@@ -66,10 +67,14 @@ spare-unjudged : (large : Bool) (b : List ℕ) → directiveIn large (byte (clea
 unfolding cleared directiveIn
 spare-unjudged large b =
     let P : List ℕ → Type 0 = λ (c : List ℕ). directiveIn large (byte c 0) c ≡ directiveIn large (byte b 0) b in
+    let u = byte b 1 / 16 * 16 in
     let v = byte b 1 / 16 * 16 + byte b 1 % 8 in
     let w = byte b 2 / 16 * 16 + byte b 2 % 4 in
-    cases P (eqb (byte b 0) 5) (set b 1 v) _ (λ e. let c = eqb-true (byte b 0) 5 e in simp (code-set b 0 v ∙ c, c, finished-cleared))
-    (λ n. cases P (eqb (byte b 0) 6) (set b 2 w) b (λ e. let c = eqb-true (byte b 0) 6 e in simp (code-set b 1 w ∙ c, c, ack-cleared)) (λ n. refl))
+    let x = byte b 1 / 64 % 2 * 64 + byte b 1 % 16 in
+    cases P (eqb (byte b 0) 4) (set b 1 u) _ (λ e. let c = eqb-true (byte b 0) 4 e in simp (code-set b 0 u ∙ c, c))
+    (λ n. cases P (eqb (byte b 0) 5) (set b 1 v) _ (λ e. let c = eqb-true (byte b 0) 5 e in simp (code-set b 0 v ∙ c, c, finished-cleared))
+    (λ n. cases P (eqb (byte b 0) 6) (set b 2 w) _ (λ e. let c = eqb-true (byte b 0) 6 e in simp (code-set b 1 w ∙ c, c, ack-cleared))
+    (λ n. cases P (eqb (byte b 0) 7) (set b 1 x) b (λ e. let c = eqb-true (byte b 0) 7 e in simp (code-set b 0 x ∙ c, c)) (λ n. refl))))
 
 -- ---- what the layouts give, a body comes to
 
@@ -80,7 +85,7 @@ ack-of-finished-read {b} large c t p k l r =
     let d : byte b 0 ≡ 6 = byte-at p (omega arith) in
     let e : length b ≡ 3 = whole-length p in
     let f : byte b 1 ≡ 0x51 = byte-at (past p) (omega arith) in
-    let g : byte b 2 ≡ c * 16 + t = byte-at (past (past p)) (omega arith) in
+    let g : byte b 2 ≡ c * 16 + t = ack-byte [] large c t p k l in
     let q : (c * 16 + t) / 16 ≡ c = omega arith in
     simp (d, e, f, g, q, r)
 
@@ -94,13 +99,13 @@ code-unread large b (inr (inr e)) = rw e
 comes : (large : Bool) (b : List ℕ) (r : Body) → ByLayout large b r → directiveIn large (byte b 0) b ≡ r
 unfolding byte
 comes large b _ (heard m y e) = sym (spare-unjudged large b) ∙ heard-body large m (at-start (cleared b) (layoutHeard large m) (sym e)) y
-comes large b _ (ofFinished c t y r e) =
-    sym (spare-unjudged large b) ∙ ack-of-finished-read large c t (at-start (cleared b) (layout large (ackFinished c t)) (sym e)) (y .0) (y .1) r
+comes large b _ (ofFinished c t k l r e) =
+    sym (spare-unjudged large b) ∙ ack-of-finished-read large c t (at-start (cleared b) (layout large (ackFinished c t)) (sym e)) k l r
 comes large b _ (unread code rest k e) = rw (ap (λ (l : List ℕ). byte l 0) (sym e)) (code-unread large b k)
 
 -- ---- what a body comes to, the layouts give
 
-bytes-take : (w : ℕ) (s : List ℕ) → Bytes s → Bytes (take w s)
+pub bytes-take : (w : ℕ) (s : List ℕ) → Bytes s → Bytes (take w s)
 bytes-take zero s y = tt
 bytes-take (suc w) [] y = tt
 bytes-take (suc w) (b ∷ s) y = (y .0, bytes-take w s (y .1))
@@ -197,7 +202,7 @@ ack-of-eof-given large x b r =
 ack-of-finished-given : (large : Bool) (x : ℕ) → x < 256 → reserved (x / 16) ≡ false → ByLayout large (6 ∷ 0x51 ∷ x ∷ []) CantProcess
 unfolding cleared byte
 ack-of-finished-given large x b r =
-    ofFinished (x / 16) (x % 4) (omega arith, omega arith) r
+    ofFinished (x / 16) (x % 4) (omega arith) (omega arith) r
     (rw (one-byte 6 (omega arith), one-byte 0x51 (omega arith), one-byte (x / 16 * 16 + x % 4) (omega arith)))
 
 ack-judged : (large : Bool) (s : List ℕ) → Bytes s → Judged large (6 ∷ s) (ackIn (6 ∷ s))
@@ -260,9 +265,9 @@ judged large (c ∷ s) y =
     (λ n. cases P (eqb c 12) _ _ (λ e. rw (eqb-true c 12 e) (keep-alive-judged large s (y .1))) (λ n. inl refl)))))))
 
 -- the layouts give no Malformed
-given : {large : Bool} {b : List ℕ} {r : Body} → ByLayout large b r → r ≡ Malformed → ⊥
+pub given : {large : Bool} {b : List ℕ} {r : Body} → ByLayout large b r → r ≡ Malformed → ⊥
 given (heard m y e) q = false≢true (cc q)
-given (ofFinished c t y r e) q = false≢true (cc q)
+given (ofFinished c t k l r e) q = false≢true (cc q)
 given (unread code rest k e) q = false≢true (cc q)
 
 pub body-exactly : BodyExactly

@@ -68,7 +68,7 @@ widths a b w q k l i j e =
     let z : a * 16 + b ≡ (w - 1) * 16 + (q - 1) = rw (m, n) at e in
     omega (arith, z)
 
-frames : {s : List ℕ} {f : Frame} {body : List ℕ} → Bytes s → IsPdu s f body → Frames s (f .head) (f .filedata) (f .tosender) body
+pub frames : {s : List ℕ} {f : Frame} {body : List ℕ} → Bytes s → IsPdu s f body → Frames s (f .head) (f .filedata) (f .tosender) body
 frames {s} {f} {body} y p =
     let h = f .head in
     let n = length body + C (h .crc) in
@@ -110,7 +110,7 @@ read-as-it-stands s y f body p =
 -- ---- what is read was a PDU
 
 -- what the tests say
-record Tests (s : List ℕ) : Type 0 where
+pub record Tests (s : List ℕ) : Type 0 where
   long : 4 ≤ length s
   version : versionIn s ≡ 1
   id-width : goodWidth (idWidthIn s) ≡ true
@@ -118,7 +118,7 @@ record Tests (s : List ℕ) : Type 0 where
   whole : length s ≡ endIn s
   checks : crcIn s ≡ true → (2 ≤ lengthIn s) × (crcAgrees s ≡ true)
 
-tests : (s : List ℕ) → wellFramed s ≡ true → Tests s
+pub tests : (s : List ℕ) → wellFramed s ≡ true → Tests s
 unfolding wellFramed crcGood
 tests s t =
     let a = both (not (ltb (length s) 4)) _ t in
@@ -137,7 +137,7 @@ tests s t =
     }
 
 -- the header's first byte from its bits
-flag-bit : (x k : ℕ) → flag (bitIn x k) ≡ x / k % 2
+pub flag-bit : (x k : ℕ) → flag (bitIn x k) ≡ x / k % 2
 unfolding bitIn
 flag-bit x k = go (x / k % 2) (omega arith)
   where
@@ -259,7 +259,7 @@ is-pdu a b c d r y t =
     (record { id-width = t .id-width; one-width = refl {a = w}; seq-width = t .seq-width; source = m .4; number = m .5; destination = m .6 })
     (y .0, y .1 .0, y .1 .1 .0) t (m .7) (m .8) (omega (arith, m .9))
 
-some-pdu : (s : List ℕ) → Bytes s → Tests s → (f : Frame) × (body : List ℕ) × IsPdu s f body
+pub some-pdu : (s : List ℕ) → Bytes s → Tests s → (f : Frame) × (body : List ℕ) × IsPdu s f body
 some-pdu [] y t = absurd (omega (arith, t .long))
 some-pdu (a ∷ []) y t = absurd (omega (arith, t .long))
 some-pdu (a ∷ b ∷ []) y t = absurd (omega (arith, t .long))

@@ -1,6 +1,11 @@
 pub mod Places
+pub mod Spare
 pub mod Round
+pub mod Writes
 pub mod Heard
 pub mod ExactBody
+pub mod Routed
+pub mod Unjudged
 pub mod ExactFrame
+pub mod ExactSaid
 pub mod Numbers

@@ -62,6 +62,7 @@ numbers-exactly =
     record {
       fitting = fitting-is;
       largest = largest-is;
+      wide = λ w id. (refl, refl);
       next = next-is;
       sizes = (refl, refl);
       crc = (refl, refl);

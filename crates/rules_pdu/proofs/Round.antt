@@ -4,7 +4,7 @@ use mathlib.Core.Path.{_≡_, refl, sym, ap, _∙_}
 use mathlib.Core.Logic.{_⊎_, inl, inr}
 use mathlib.Core.Bool.{Bool, true, false, false≢true}
 use mathlib.Core.List.{List, [], _∷_, _++_, append-assoc, append-nil}
-use mathlib.Core.Option.{some}
+use mathlib.Core.Option.{none, some}
 use Prim.Native.Nat.{ℕ, _+_, _-_, _*_, _/_, _%_, _^_, _<_, _≤_}
 use native.Mathlib.Nat.{add-sub-cancel, zero-add}
 use native.Mathlib.Omega.{arith}
@@ -12,7 +12,7 @@ use lib.ListN.{length, take, drop, length-append}
 use lib.Dec.{eqb, leb, ltb}
 use lib.Seq.{take-append-seam, drop-append-seam}
 use borrow.Author.Tests.{eqb-true, ltb-false, eq-eqb, le-leb, le-ltb}
-use Rattle.basis.specs.Pick.{_and_, not, flag}
+use Rattle.basis.specs.Pick.{pick, _and_, not, flag}
 use Rattle.basis.specs.Bytes.{be, part, byte, numAt}
 use Rattle.basis.proofs.Pick.{wherever, cases, flag-lt, eqb-flag}
 use Rattle.basis.proofs.Bytes.{length-be, num-be}
@@ -26,6 +26,7 @@ use Rattle.rules_pdu.specs.PduLaws.{Fit, Sayable, RoundTrip, SameBytes, 
 use Rattle.types.specs.declared.Head.{Head}
 use Rattle.types.specs.declared.EntityId.{EntityId}
 use Rattle.rules_pdu.proofs.Places.{At, at-start, past, part-at, num-at, byte-at, rest-at, whole-length, opened, length-wire}
+use Rattle.rules_pdu.proofs.Spare.{eof-byte, metadata-byte, ack-byte}
 use Rattle.rules_leaves.proofs.Sums.{crc16-lt}
 
 -- ---- the header
@@ -246,7 +247,7 @@ module _ {s : List ℕ} {h : Head} {filedata tosender : Bool} {body : List ℕ} 
 abbrev front : Head → Bool → Bool → List ℕ → List ℕ
 front h filedata tosender body = headBytes h filedata tosender (length body + C (h .crc)) ++ body
 
-pdu-at : (h : Head) (filedata tosender : Bool) (body : List ℕ)
+pub pdu-at : (h : Head) (filedata tosender : Bool) (body : List ℕ)
     → At (pduBytes h filedata tosender body) 0
     (headFields h filedata tosender (length body + C (h .crc)) (raw body ∷ raw (trailer (h .crc) (front h filedata tosender body)) ∷ []))
 unfolding pduBytes headBytes
@@ -266,76 +267,69 @@ unfolding pduBytes
 pdu-frames h filedata tosender body f l =
     record { front = front h filedata tosender body; closes = refl; opens = pdu-opens h filedata tosender body f; short = l }
 
-decode-read : (h : Head) (filedata : Bool) (body : List ℕ) → Fit h → length body + C (h .crc) < 65536
-    → decode (pduBytes h filedata false body) ≡ withHead h (saidIn filedata (h .large) body)
+-- bytes that are a PDU are read by direction, type and body
+pub decode-read : {s : List ℕ} {h : Head} {filedata tosender : Bool} {body : List ℕ} → Frames s h filedata tosender body
+    → decode s ≡ pick tosender none (withHead h (saidIn filedata (h .large) body))
 unfolding decode
-decode-read h filedata body f l =
-    let p = pdu-frames h filedata false body f l in
-    simp (
-      well-framed-read p,
-      tosender-read (p .opens),
-      head-read (p .opens),
-      filedata-read (p .opens),
-      large-read (p .opens),
-      body-read p,
-    )
+decode-read p =
+    simp (well-framed-read p, tosender-read (p .opens), head-read (p .opens), filedata-read (p .opens), large-read (p .opens), body-read p)
 
 -- ---- the bodies, each of any bytes that hold its layout
 
-metadata-read : {s : List ℕ} (large : Bool) {closure : Bool} {k n : ℕ} {a b : List ℕ} → At s 0 (layout large (metadata closure k n a b))
-    → Sayable large (metadata closure k n a b) → metadataIn large s ≡ some (metadata closure k n a b)
+metadata-read : {s : List ℕ} (h : Head) {closure : Bool} {k n : ℕ} {a b : List ℕ} → At s 0 (layout (h .large) (metadata closure k n a b))
+    → Sayable h (metadata closure k n a b) → metadataIn (h .large) s ≡ some (metadata closure k n a b)
 unfolding metadataIn
-metadata-read {s} large {closure} {k} {n} {a} {b} p h =
+metadata-read {s} h {closure} {k} {n} {a} {b} p y =
     let z = flag-lt closure in
     let p3 = past (past (past p)) in
     let p5 = past (past p3) in
-    let flags : byte s 1 ≡ flag closure * 64 + k = byte-at (past p) (omega arith) in
-    let la : byte s (2 + F large) ≡ length a = byte-at p3 (h .2) in
-    let lb : byte s (2 + F large + 1 + length a) ≡ length b = byte-at p5 (h .3) in
-    let e : length s ≡ 4 + F large + length a + length b = whole-length p ∙ omega arith in
+    let flags : byte s 1 ≡ flag closure * 64 + k = metadata-byte [] (h .large) closure k n a b p (y .0) in
+    let la : byte s (2 + F (h .large)) ≡ length a = byte-at p3 (y .2) in
+    let lb : byte s (2 + F (h .large) + 1 + length a) ≡ length b = byte-at p5 (y .3) in
+    let e : length s ≡ 4 + F (h .large) + length a + length b = whole-length p ∙ omega arith in
     let q : bitIn (flag closure * 64 + k) 64 ≡ closure = bit-read (flag closure * 64 + k) 64 closure (omega arith) in
     let r : (flag closure * 64 + k) % 16 ≡ k = omega arith in
-    simp (la, lb, flags, q, r, eq-eqb _ _ e, num-at (past (past p)) (h .1), part-at (past p3), part-at (past p5))
+    simp (la, lb, flags, q, r, eq-eqb _ _ e, num-at (past (past p)) (y .1), part-at (past p3), part-at (past p5))
 
-data-read : {s : List ℕ} (large : Bool) {o : ℕ} {bs : List ℕ} → At s 0 (layout large (fileData o bs)) → o < 2 ^ (8 * F large)
-    → dataIn large s ≡ some (fileData o bs)
+data-read : {s : List ℕ} (h : Head) {o : ℕ} {bs : List ℕ} → At s 0 (layout (h .large) (fileData o bs)) → o < 2 ^ (8 * F (h .large))
+    → dataIn (h .large) s ≡ some (fileData o bs)
 unfolding dataIn
-data-read {s} large {o} {bs} p h =
-    let e : length s ≡ F large + (length bs + 0) = whole-length p in
-    let l : leb (F large) (length s) ≡ true = le-leb (F large) (length s) (omega arith) in
-    let q : drop (F large) s ≡ bs = rw zero-add at (rest-at (past p)) in
-    simp (l, num-at p h, q)
+data-read {s} h {o} {bs} p y =
+    let e : length s ≡ F (h .large) + (length bs + 0) = whole-length p in
+    let l : leb (F (h .large)) (length s) ≡ true = le-leb (F (h .large)) (length s) (omega arith) in
+    let q : drop (F (h .large)) s ≡ bs = rw zero-add at (rest-at (past p)) in
+    simp (l, num-at p y, q)
 
-eof-read : {s : List ℕ} (large : Bool) {c k n : ℕ} → At s 0 (layout large (eof c k n)) → Sayable large (eof c k n) → eofIn large s ≡ some (eof c k n)
+eof-read : {s : List ℕ} (h : Head) {c k n : ℕ} → At s 0 (layout (h .large) (eof c k n)) → Sayable h (eof c k n) → eofIn (h .large) s ≡ some (eof c k n)
 unfolding eofIn
-eof-read {s} large {c} {k} {n} p h =
-    let b : byte s 1 ≡ c * 16 = byte-at (past p) (omega arith) in
+eof-read {s} h {c} {k} {n} p y =
+    let b : byte s 1 ≡ c * 16 = eof-byte [] (h .large) c k n p (y .0) in
     let q : c * 16 / 16 ≡ c = omega arith in
-    let e : length s ≡ 6 + F large = whole-length p ∙ omega arith in
-    simp (eq-eqb _ _ e, b, q, num-at (past (past p)) (h .1), num-at (past (past (past p))) (h .2))
+    let e : length s ≡ 6 + F (h .large) = whole-length p ∙ omega arith in
+    simp (eq-eqb _ _ e, b, q, y .1, num-at (past (past p)) (y .2), num-at (past (past (past p))) (y .3))
 
-ack-read : {s : List ℕ} (large : Bool) {c t : ℕ} → At s 0 (layout large (ackFinished c t)) → Sayable large (ackFinished c t)
+ack-read : {s : List ℕ} (h : Head) {c t : ℕ} → At s 0 (layout (h .large) (ackFinished c t)) → Sayable h (ackFinished c t)
     → ackFinishedIn s ≡ some (ackFinished c t)
 unfolding ackFinishedIn
-ack-read {s} large {c} {t} p h =
+ack-read {s} h {c} {t} p y =
     let a : byte s 1 ≡ 0x51 = byte-at (past p) (omega arith) in
-    let b : byte s 2 ≡ c * 16 + t = byte-at (past (past p)) (omega arith) in
+    let b : byte s 2 ≡ c * 16 + t = ack-byte [] (h .large) c t p (y .0) (y .2) in
     let q : (c * 16 + t) / 16 ≡ c = omega arith in
     let r : (c * 16 + t) % 4 ≡ t = omega arith in
     let e : length s ≡ 3 = whole-length p in
-    simp (e, a, b, q, r)
+    simp (e, a, b, q, r, y .1)
 
-said-read : {s : List ℕ} (large : Bool) (m : Said) → At s 0 (layout large m) → Sayable large m → saidIn (isFileData m) large s ≡ some m
+pub said-read : {s : List ℕ} (h : Head) (m : Said) → At s 0 (layout (h .large) m) → Sayable h m → saidIn (isFileData m) (h .large) s ≡ some m
 unfolding saidIn
-said-read {s} large (metadata closure k n a b) p h = let e : byte s 0 ≡ 7 = byte-at p (omega arith) in rw e (metadata-read large p h)
-said-read {s} large (fileData o bs) p h = data-read large p (h .0)
-said-read {s} large (eof c k n) p h = let e : byte s 0 ≡ 4 = byte-at p (omega arith) in rw e (eof-read large p h)
-said-read {s} large (ackFinished c t) p h = let e : byte s 0 ≡ 6 = byte-at p (omega arith) in rw e (ack-read large p h)
+said-read {s} h (metadata closure k n a b) p y = let e : byte s 0 ≡ 7 = byte-at p (omega arith) in rw e (metadata-read h p y)
+said-read {s} h (fileData o bs) p y = data-read h p (y .0)
+said-read {s} h (eof c k n) p y = let e : byte s 0 ≡ 4 = byte-at p (omega arith) in rw e (eof-read h p y)
+said-read {s} h (ackFinished c t) p y = let e : byte s 0 ≡ 6 = byte-at p (omega arith) in rw e (ack-read h p y)
 
 -- ---- the laws
 
 -- the length of the data field fits its two bytes
-length-body : (h : Head) (m : Said) → Sayable (h .large) m → length (bodyBytes (h .large) m) + C (h .crc) < 65536
+length-body : (h : Head) (m : Said) → Sayable h m → length (bodyBytes (h .large) m) + C (h .crc) < 65536
 unfolding bodyBytes
 length-body h (metadata closure k n a b) y = let z = flag-lt (h .crc) in let w = flag-lt (h .large) in simp length-wire (omega arith)
 length-body h (fileData o bs) y = let z = flag-lt (h .crc) in let w = flag-lt (h .large) in simp length-wire (omega arith)
@@ -345,7 +339,7 @@ length-body h (ackFinished c t) y = let z = flag-lt (h .crc) in simp length-wire
 pub round-trip : RoundTrip
 unfolding encode bodyBytes
 round-trip h m f y =
-    decode-read h (isFileData m) (bodyBytes (h .large) m) f (length-body h m y) ∙ ap (withHead h) (said-read (h .large) m (at-start _ _ refl) y)
+    decode-read (pdu-frames h (isFileData m) false (bodyBytes (h .large) m) f (length-body h m y)) ∙ ap (withHead h) (said-read h m (at-start _ _ refl) y)
 
 pub same-bytes : SameBytes
 same-bytes h g m n f k y z e =
@@ -407,7 +401,7 @@ eof-seen h (fileData o bs) f = rw (filedata-read (pdu-opens h true false (bodyBy
 eof-seen h (eof c k n) f = directive h 4 (behind (layout (h .large) (eof c k n))) (omega arith) f
 eof-seen h (ackFinished c t) f = directive h 6 (behind (layout (h .large) (ackFinished c t))) (omega arith) f
 
-pub file-data : (h : Head) (o : ℕ) (bs : List ℕ) → Fit h → Sayable (h .large) (fileData o bs) → fileDataOf (encode h (fileData o bs)) ≡ some (o, bs)
+pub file-data : (h : Head) (o : ℕ) (bs : List ℕ) → Fit h → Sayable h (fileData o bs) → fileDataOf (encode h (fileData o bs)) ≡ some (o, bs)
 unfolding fileDataOf
 file-data h o bs f y = rw (round-trip h (fileData o bs) f y)
 

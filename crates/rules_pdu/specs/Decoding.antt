@@ -10,7 +10,7 @@ use Rattle.basis.specs.Pick.{pick, _and_, not}
 use Rattle.basis.specs.Bytes.{part, byte, numAt}
 use Rattle.rules_pdu.specs.Numbers.{F}
 use Rattle.rules_pdu.specs.Layout.{Said, metadata, fileData, eof, ackFinished, Pdu}
-use Rattle.rules_pdu.specs.Reading.{bitIn, wellFramed, headIn, fileDataIn, toSenderIn, largeIn, hIn, bodyIn}
+use Rattle.rules_pdu.specs.Reading.{bitIn, wellFramed, headIn, fileDataIn, toSenderIn, largeIn, hIn, bodyIn, reserved}
 use Rattle.types.specs.declared.Head.{Head}
 
 -- 7 Metadata: "reserved 1, closure 1, reserved 2, checksum type 4; size F; source name, destination name, each behind one length byte"
@@ -26,13 +26,19 @@ metadataIn large b =
 unfoldable pub dataIn : Bool → List ℕ → Option Said
 dataIn large b = pick (leb (F large) (length b)) (some (fileData (numAt b 0 (F large)) (drop (F large) b))) none
 
--- 4 EOF: "condition (4 bits), spare 4, checksum 4 bytes, size F bytes; no fault location"
+-- 4 EOF: "condition (4 bits), spare 4, checksum 4 bytes, size F bytes; no fault location"; "Conditions 12 and 13 are reserved: Malformed"
 unfoldable pub eofIn : Bool → List ℕ → Option Said
-eofIn large b = pick (eqb (length b) (6 + F large)) (some (eof (byte b 1 / 16) (numAt b 2 4) (numAt b 6 (F large)))) none
+eofIn large b =
+    pick (eqb (length b) (6 + F large) and not (reserved (byte b 1 / 16)))
+    (some (eof (byte b 1 / 16) (numAt b 2 4) (numAt b 6 (F large))))
+    none
 
--- 6 ACK of Finished: 5 and 1 in its second byte
+-- 6 ACK of Finished: 5 and 1 in its second byte, and no reserved condition
 unfoldable pub ackFinishedIn : List ℕ → Option Said
-ackFinishedIn b = pick (eqb (length b) 3) (pick (eqb (byte b 1) 0x51) (some (ackFinished (byte b 2 / 16) (byte b 2 % 4))) none) none
+ackFinishedIn b =
+    pick (eqb (length b) 3 and eqb (byte b 1) 0x51 and not (reserved (byte b 2 / 16)))
+    (some (ackFinished (byte b 2 / 16) (byte b 2 % 4)))
+    none
 
 -- by type, then by directive code
 unfoldable pub saidIn : Bool → Bool → List ℕ → Option Said

@@ -4,7 +4,8 @@ use mathlib.Core.Path.{_≡_}
 use mathlib.Core.Logic.{_↔_, _⊎_}
 use mathlib.Core.Bool.{true, false}
 use Prim.Native.Nat.{ℕ, _+_, _*_, _^_, _<_, _≤_}
-use Rattle.rules_pdu.specs.Numbers.{fits, larger, numberAfter, H, F, C, isLarge, segmentLength}
+use Rattle.rules_pdu.specs.Numbers.{fits, larger, widened, numberAfter, H, F, C, isLarge, segmentLength}
+use Rattle.types.specs.declared.EntityId.{EntityId}
 use Rattle.types.specs.declared.Head.{Head}
 
 -- PROMISE numbers-exactly
@@ -13,6 +14,8 @@ pub record NumbersExactly : Type 0 where
   pub fitting : (w v : ℕ) → (fits w v ≡ true) ↔ (((w ≡ 1) ⊎ (w ≡ 2) ⊎ (w ≡ 4) ⊎ (w ≡ 8)) × (v < 2 ^ (8 * w)))
   -- "the larger of the two widths"
   pub largest : (a b : ℕ) → (a ≤ larger a b) × (b ≤ larger a b) × ((larger a b ≡ a) ⊎ (larger a b ≡ b))
+  -- "Both ids take" a width: the value stays
+  pub wide : (w : ℕ) (id : EntityId) → (widened w id .0 ≡ w) × (widened w id .1 ≡ id .1)
   -- "after the last number of its width comes 0"; before it comes the next, and the width stays
   pub next : (w v : ℕ) → (v + 1 ≡ 2 ^ (8 * w) → numberAfter (w, v) ≡ (w, 0)) × (v + 1 < 2 ^ (8 * w) → numberAfter (w, v) ≡ (w, v + 1))
   -- "F = 4 (Normal) or 8 (Large), C = 2 with the CRC flag, else 0"

@@ -1,4 +1,4 @@
--- Byte cases: M1 to M4 and M8 of document 01 written and read, and deliveries with what each comes to.
+-- Byte cases: M1 to M4 and M8 of document 01 and their like written and read, and deliveries with what each comes to.
 -- Assumes nothing.
 use mathlib.Core.Path.{_≡_, refl}
 use mathlib.Core.Bool.{Bool, true, false}
@@ -29,7 +29,7 @@ plain unacknowledged =
 abbrev pub checked : Head
 checked = record { unacknowledged = true; crc = true; large = true; source = (2, 513); number = (4, 70000); destination = (2, 2) }
 
--- M1, M2, M3, M4, M8; and one with CRC, Large, widths 2 and 4
+-- M1, M2, M3, M4, M8; M1 with closure, of checksum types 3 and 15; the EOF of a user's cancel behind M2; M8 with condition 4; and one with CRC, Large, widths 2 and 4
 abbrev pub sent : List Pdu
 sent =
     record { head = plain true; said = metadata false 0 5 (0x61 ∷ []) (0x62 ∷ []) }
@@ -37,6 +37,10 @@ sent =
     ∷ record { head = plain true; said = fileData 4 (0x45 ∷ []) }
     ∷ record { head = plain true; said = eof 0 0x86424344 5 }
     ∷ record { head = plain false; said = ackFinished 0 1 }
+    ∷ record { head = plain true; said = metadata true 3 5 (0x61 ∷ []) (0x62 ∷ []) }
+    ∷ record { head = plain true; said = metadata true 15 5 (0x61 ∷ []) (0x62 ∷ []) }
+    ∷ record { head = plain true; said = eof 15 0x41424344 4 }
+    ∷ record { head = plain false; said = ackFinished 4 1 }
     ∷ record { head = checked; said = fileData 4294967301 (0x45 ∷ []) }
     ∷ []
 
@@ -47,6 +51,10 @@ onTheLink =
     ∷ (0x34 ∷ 0x00 ∷ 0x05 ∷ 0x00 ∷ 0x01 ∷ 0x07 ∷ 0x02 ∷ 0x00 ∷ 0x00 ∷ 0x00 ∷ 0x04 ∷ 0x45 ∷ [])
     ∷ (0x24 ∷ 0x00 ∷ 0x0A ∷ 0x00 ∷ 0x01 ∷ 0x07 ∷ 0x02 ∷ 0x04 ∷ 0x00 ∷ 0x86 ∷ 0x42 ∷ 0x43 ∷ 0x44 ∷ 0x00 ∷ 0x00 ∷ 0x00 ∷ 0x05 ∷ [])
     ∷ (0x20 ∷ 0x00 ∷ 0x03 ∷ 0x00 ∷ 0x01 ∷ 0x07 ∷ 0x02 ∷ 0x06 ∷ 0x51 ∷ 0x01 ∷ [])
+    ∷ (0x24 ∷ 0x00 ∷ 0x0A ∷ 0x00 ∷ 0x01 ∷ 0x07 ∷ 0x02 ∷ 0x07 ∷ 0x43 ∷ 0x00 ∷ 0x00 ∷ 0x00 ∷ 0x05 ∷ 0x01 ∷ 0x61 ∷ 0x01 ∷ 0x62 ∷ [])
+    ∷ (0x24 ∷ 0x00 ∷ 0x0A ∷ 0x00 ∷ 0x01 ∷ 0x07 ∷ 0x02 ∷ 0x07 ∷ 0x4F ∷ 0x00 ∷ 0x00 ∷ 0x00 ∷ 0x05 ∷ 0x01 ∷ 0x61 ∷ 0x01 ∷ 0x62 ∷ [])
+    ∷ (0x24 ∷ 0x00 ∷ 0x0A ∷ 0x00 ∷ 0x01 ∷ 0x07 ∷ 0x02 ∷ 0x04 ∷ 0xF0 ∷ 0x41 ∷ 0x42 ∷ 0x43 ∷ 0x44 ∷ 0x00 ∷ 0x00 ∷ 0x00 ∷ 0x04 ∷ [])
+    ∷ (0x20 ∷ 0x00 ∷ 0x03 ∷ 0x00 ∷ 0x01 ∷ 0x07 ∷ 0x02 ∷ 0x06 ∷ 0x51 ∷ 0x41 ∷ [])
     ∷ (0x37 ∷ 0x00 ∷ 0x0B ∷ 0x13 ∷ 0x02 ∷ 0x01 ∷ 0x00 ∷ 0x01 ∷ 0x11 ∷ 0x70 ∷ 0x00 ∷ 0x02 ∷ 0x00 ∷ 0x00 ∷ 0x00 ∷ 0x01 ∷ 0x00 ∷ 0x00 ∷ 0x00 ∷ 0x05 ∷ 0x45 ∷ 0xF4 ∷ 0xC4 ∷ [])
     ∷ []
 
@@ -58,11 +66,11 @@ unfolding be headBytes trailer pduBytes bodyBytes encode crc16 crc16Byte
 written = refl
 
 pub read : map decode onTheLink ≡ map some sent
-unfolding num part byte numAt goodWidth bitIn versionIn fileDataIn toSenderIn unacknowledgedIn crcIn largeIn lengthIn idWidthIn seqWidthIn headIn bodyIn crcAgrees crcGood wellFramed metadataIn dataIn eofIn ackFinishedIn saidIn decode crc16 crc16Byte
+unfolding num part byte numAt goodWidth bitIn versionIn fileDataIn toSenderIn unacknowledgedIn crcIn largeIn lengthIn idWidthIn seqWidthIn headIn bodyIn crcAgrees crcGood wellFramed reserved metadataIn dataIn eofIn ackFinishedIn saidIn decode crc16 crc16Byte
 read = refl
 
 -- what is no sender's PDU: M1 whose second name ends behind the body; M4 with a byte more; M8 with subtype 0, and towards the sender;
--- file data that ends inside its offset; another code
+-- file data that ends inside its offset; another code; M4 with condition 12, M8 with condition 13
 abbrev pub noPdu : List (List ℕ)
 noPdu =
     (0x24 ∷ 0x00 ∷ 0x0A ∷ 0x00 ∷ 0x01 ∷ 0x07 ∷ 0x02 ∷ 0x07 ∷ 0x00 ∷ 0x00 ∷ 0x00 ∷ 0x00 ∷ 0x05 ∷ 0x01 ∷ 0x61 ∷ 0x02 ∷ 0x62 ∷ [])
@@ -71,10 +79,12 @@ noPdu =
     ∷ (0x28 ∷ 0x00 ∷ 0x03 ∷ 0x00 ∷ 0x01 ∷ 0x07 ∷ 0x02 ∷ 0x06 ∷ 0x51 ∷ 0x01 ∷ [])
     ∷ (0x34 ∷ 0x00 ∷ 0x03 ∷ 0x00 ∷ 0x01 ∷ 0x07 ∷ 0x02 ∷ 0x00 ∷ 0x00 ∷ 0x00 ∷ [])
     ∷ (0x20 ∷ 0x00 ∷ 0x02 ∷ 0x00 ∷ 0x01 ∷ 0x07 ∷ 0x02 ∷ 0x05 ∷ 0x00 ∷ [])
+    ∷ (0x24 ∷ 0x00 ∷ 0x0A ∷ 0x00 ∷ 0x01 ∷ 0x07 ∷ 0x02 ∷ 0x04 ∷ 0xC0 ∷ 0x86 ∷ 0x42 ∷ 0x43 ∷ 0x44 ∷ 0x00 ∷ 0x00 ∷ 0x00 ∷ 0x05 ∷ [])
+    ∷ (0x20 ∷ 0x00 ∷ 0x03 ∷ 0x00 ∷ 0x01 ∷ 0x07 ∷ 0x02 ∷ 0x06 ∷ 0x51 ∷ 0xD1 ∷ [])
     ∷ []
 
 pub unread : map decode noPdu ≡ map (λ (s : List ℕ). none) noPdu
-unfolding num part byte numAt goodWidth bitIn versionIn fileDataIn toSenderIn unacknowledgedIn crcIn largeIn lengthIn idWidthIn seqWidthIn headIn bodyIn crcAgrees crcGood wellFramed metadataIn dataIn eofIn ackFinishedIn saidIn decode
+unfolding num part byte numAt goodWidth bitIn versionIn fileDataIn toSenderIn unacknowledgedIn crcIn largeIn lengthIn idWidthIn seqWidthIn headIn bodyIn crcAgrees crcGood wellFramed reserved metadataIn dataIn eofIn ackFinishedIn saidIn decode
 unread = refl
 
 -- ---- deliveries, and what each comes to
@@ -129,7 +139,9 @@ deliveries =
     ∷ (0x38 ∷ 0x00 ∷ 0x00 ∷ 0x00 ∷ 0x01 ∷ 0x07 ∷ 0x02 ∷ [], CantProcess)
     ∷ (told (0x0A ∷ []), Malformed)
     ∷ (told [], Malformed)
-    -- towards the receiver: an ACK of EOF, and one that is Malformed all the same
+    -- towards the receiver: an EOF, unread; an ACK of Finished; an ACK of EOF, and one that is Malformed all the same
+    ∷ (0x24 ∷ 0x00 ∷ 0x01 ∷ 0x00 ∷ 0x01 ∷ 0x07 ∷ 0x02 ∷ 0x04 ∷ [], CantProcess)
+    ∷ (0x20 ∷ 0x00 ∷ 0x03 ∷ 0x00 ∷ 0x01 ∷ 0x07 ∷ 0x02 ∷ 0x06 ∷ 0x51 ∷ 0x01 ∷ [], CantProcess)
     ∷ (0x20 ∷ 0x00 ∷ 0x03 ∷ 0x00 ∷ 0x01 ∷ 0x07 ∷ 0x02 ∷ 0x06 ∷ 0x40 ∷ 0x01 ∷ [], CantProcess)
     ∷ (0x20 ∷ 0x00 ∷ 0x03 ∷ 0x00 ∷ 0x01 ∷ 0x07 ∷ 0x02 ∷ 0x06 ∷ 0x41 ∷ 0x01 ∷ [], Malformed)
     -- mode bit, segmentation control and segment metadata flag set; versions 2 and 3; an id width of 3;

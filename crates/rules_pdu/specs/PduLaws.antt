@@ -1,26 +1,27 @@
 -- What follows from the layouts and their readings: reading what was written gives its meaning back.
--- The other way round, only what was written is read. Proofs: proofs/Round.antt, Heard.antt, ExactBody.antt, ExactFrame.antt.
+-- The other way round, only what was written is read. Proofs: proofs/Round.antt, Writes.antt, Heard.antt, ExactBody.antt, Routed.antt, ExactFrame.antt, ExactSaid.antt.
 -- Assumes nothing.
 use mathlib.Core.Path.{_≡_}
 use mathlib.Core.Logic.{_↔_, _⊎_}
 use mathlib.Core.Bool.{Bool, true, false}
 use mathlib.Core.List.{List, [], _∷_, _++_}
-use mathlib.Core.Option.{some}
-use Prim.Native.Nat.{ℕ, _+_, _-_, _*_, _/_, _%_, _^_, _<_}
+use mathlib.Core.Option.{some, none}
+use Prim.Native.Nat.{ℕ, _+_, _-_, _*_, _/_, _%_, _^_, _<_, _≤_}
 use lib.Dec.{eqb}
 use lib.ListN.{length, take, set}
-use Rattle.basis.specs.Pick.{pick}
+use Rattle.basis.specs.Pick.{pick, flag}
 use Rattle.basis.specs.Bytes.{byte, numAt, Bytes}
 use Rattle.rules_pdu.specs.Fields.{wire}
 use Rattle.rules_pdu.specs.Numbers.{goodWidth, H, F, C}
 use Rattle.rules_leaves.specs.Checksum.{crc16}
-use Rattle.rules_pdu.specs.Layout.{Said, metadata, fileData, eof, ackFinished, Heard, finished, ackEof, nak, keepAlive, headBytes, layout, layoutHeard, trailer, encode, encodeHeard, pduLength}
+use Rattle.rules_pdu.specs.Layout.{Said, metadata, fileData, eof, ackFinished, Heard, finished, ackEof, nak, keepAlive, headBytes, layout, layoutHeard, trailer, encode, encodeHeard, pduLength, Pdu, isFileData, writtenOf}
 use Rattle.rules_pdu.specs.Reading.{reserved, lengthIn, frameIn, framedIn, bodyIn, bodyOf, areTlvs, directiveIn, requestsFrom}
 use Rattle.rules_pdu.specs.Decoding.{decode}
 use Rattle.types.specs.declared.Head.{Head}
 use Rattle.types.specs.declared.Frame.{Frame}
 use Rattle.types.specs.declared.Framed.the-variants.{Malformed as NoFrame, Whole}
 use Rattle.types.specs.declared.SegmentRequest.{SegmentRequest}
+use Rattle.types.specs.declared.Written.the-variants.{Short, Wrote}
 use Rattle.types.specs.declared.Meaning.{Meaning}
 use Rattle.types.specs.declared.Meaning.the-variants.{Finished, AckOfEof, Nak, KeepAlive}
 use Rattle.types.specs.declared.Body.{Body}
@@ -37,12 +38,12 @@ pub record Fit (h : Head) : Type 0 where
   pub number : h .number .1 < 2 ^ (8 * h .number .0)
   pub destination : h .destination .1 < 2 ^ (8 * h .source .0)
 
--- values that fit their fields
-abbrev pub Sayable : Bool → Said → Type 0
-Sayable large (metadata closure type n a b) = (type < 16) × (n < 2 ^ (8 * F large)) × (length a < 256) × (length b < 256)
-Sayable large (fileData o bs) = (o < 2 ^ (8 * F large)) × (length bs < 65000)
-Sayable large (eof c k n) = (c < 16) × (k < 2 ^ 32) × (n < 2 ^ (8 * F large))
-Sayable large (ackFinished c t) = (c < 16) × (t < 4)
+-- values that fit their fields; file data that fits the data field; conditions that are not reserved
+abbrev pub Sayable : Head → Said → Type 0
+Sayable h (metadata closure type n a b) = (type < 16) × (n < 2 ^ (8 * F (h .large))) × (length a < 256) × (length b < 256)
+Sayable h (fileData o bs) = (o < 2 ^ (8 * F (h .large))) × (F (h .large) + length bs + C (h .crc) < 65536)
+Sayable h (eof c k n) = (c < 16) × (reserved c ≡ false) × (k < 2 ^ 32) × (n < 2 ^ (8 * F (h .large)))
+Sayable h (ackFinished c t) = (c < 16) × (reserved c ≡ false) × (t < 4)
 
 abbrev pub GoodTlvs : List (ℕ × List ℕ) → Type 0
 GoodTlvs [] = Unit {0}
@@ -62,12 +63,12 @@ Hearable large (keepAlive p) = p < 2 ^ (8 * F large)
 
 -- LAW round-trip: for every meaning that a sender can write, reading what was written gives the meaning back.
 abbrev pub RoundTrip : Type 0
-RoundTrip = (h : Head) (m : Said) → Fit h → Sayable (h .large) m → decode (encode h m) ≡ some (record { head = h; said = m })
+RoundTrip = (h : Head) (m : Said) → Fit h → Sayable h m → decode (encode h m) ≡ some (record { head = h; said = m })
 
 -- LAW same-bytes: two meanings with the same bytes are one.
 abbrev pub SameBytes : Type 0
 SameBytes =
-    (h g : Head) (m n : Said) → Fit h → Fit g → Sayable (h .large) m → Sayable (g .large) n → encode h m ≡ encode g n → (h ≡ g) × (m ≡ n)
+    (h g : Head) (m n : Said) → Fit h → Fit g → Sayable h m → Sayable g n → encode h m ≡ encode g n → (h ≡ g) × (m ≡ n)
 
 -- LAW crc-checks: with the CRC flag, the last two bytes of a written PDU are the CRC-16 of all before them.
 abbrev pub CrcChecks : Type 0
@@ -78,8 +79,25 @@ CrcChecks =
 -- LAW length-agrees: a written PDU is as long as its definition says, and its length field says so.
 abbrev pub LengthAgrees : Type 0
 LengthAgrees =
-    (h : Head) (m : Said) → Fit h → Sayable (h .large) m
+    (h : Head) (m : Said) → Fit h → Sayable h m
     → (length (encode h m) ≡ pduLength h m) × (H h + lengthIn (encode h m) ≡ length (encode h m))
+
+-- LAW spare-zero: "Spare bits, segmentation control and segment metadata flag are written 0": each byte that holds some is what its other bits make it.
+abbrev pub SpareZero : Type 0
+SpareZero =
+    (h : Head) → Fit h
+    -- header byte 3: "segmentation control (1), id width - 1 (3), segment metadata flag (1), sequence width - 1 (3)"
+    → ((m : Said) → byte (encode h m) 3 ≡ (h .source .0 - 1) * 16 + (h .number .0 - 1))
+    -- behind an EOF's code: "condition (4 bits), spare 4"
+    × ((c k n : ℕ) → c < 16 → byte (encode h (eof c k n)) (H h + 1) ≡ c * 16)
+    -- behind Metadata's: "reserved 1, closure 1 .., reserved 2, checksum type 4"
+    × ((closure : Bool) (type n : ℕ) (a b : List ℕ) → type < 16 → byte (encode h (metadata closure type n a b)) (H h + 1) ≡ flag closure * 64 + type)
+    -- behind an ACK's second byte: "condition 4, spare 2, status 2"
+    × ((c t : ℕ) → c < 16 → t < 4 → byte (encode h (ackFinished c t)) (H h + 2) ≡ c * 16 + t)
+
+-- LAW written-exactly: a writer's answer is that the buffer is too small exactly if the bytes are longer than it, and else their number.
+abbrev pub WrittenExactly : Type 0
+WrittenExactly = (bs out : List ℕ) → (length out < length bs → writtenOf bs out ≡ Short) × (length bs ≤ length out → writtenOf bs out ≡ Wrote (length bs))
 
 -- LAW headers-differ: two different headers of equal widths never have the same bytes.
 abbrev pub HeadersDiffer : Type 0
@@ -125,17 +143,19 @@ TlvsExactly = (s : List ℕ) → (areTlvs s ≡ true) ↔ Tlvs s
 
 -- ---- the other direction: what is read was written
 
--- "Spare bits .. are not judged": a body with those of Finished and ACK 0
+-- "Spare bits .. are not judged": a directive's body with those of EOF, Finished and ACK 0, and Metadata's reserved ones
 unfoldable pub cleared : List ℕ → List ℕ
 cleared b =
-    pick (eqb (byte b 0) 5) (set b 1 (byte b 1 / 16 * 16 + byte b 1 % 8))
+    pick (eqb (byte b 0) 4) (set b 1 (byte b 1 / 16 * 16))
+    (pick (eqb (byte b 0) 5) (set b 1 (byte b 1 / 16 * 16 + byte b 1 % 8))
     (pick (eqb (byte b 0) 6) (set b 2 (byte b 2 / 16 * 16 + byte b 2 % 4))
-    b)
+    (pick (eqb (byte b 0) 7) (set b 1 (byte b 1 / 64 % 2 * 64 + byte b 1 % 16))
+    b)))
 
 -- what a body comes to by the layouts: a peer's meaning, an ACK of Finished, or one of the three that stay unread
 pub data ByLayout (large : Bool) (b : List ℕ) : Body → Type 0 where
   heard : (m : Heard) → Hearable large m → wire (layoutHeard large m) ≡ cleared b → ByLayout large b (Means (meaningOf m))
-  ofFinished : (c t : ℕ) → Sayable large (ackFinished c t) → reserved c ≡ false → wire (layout large (ackFinished c t)) ≡ cleared b → ByLayout large b CantProcess
+  ofFinished : (c t : ℕ) → c < 16 → t < 4 → reserved c ≡ false → wire (layout large (ackFinished c t)) ≡ cleared b → ByLayout large b CantProcess
   unread : (code : ℕ) (rest : List ℕ) → (code ≡ 4) ⊎ (code ≡ 7) ⊎ (code ≡ 9) → code ∷ rest ≡ b → ByLayout large b CantProcess
 
 -- LAW body-exactly: a body is Malformed exactly if the layouts give it nothing, and else comes to what they give.
@@ -144,6 +164,16 @@ BodyExactly =
     (large : Bool) (b : List ℕ) → Bytes b
     → ((directiveIn large (byte b 0) b ≡ Malformed) ↔ ((r : Body) → ByLayout large b r → ⊥))
     × ((r : Body) → ByLayout large b r → directiveIn large (byte b 0) b ≡ r)
+
+-- LAW routed-exactly: file data is 21; a directive is Malformed exactly if the layouts give its body nothing, and else comes to what they give
+-- towards the sender, and to 21 towards the receiver.
+abbrev pub RoutedExactly : Type 0
+RoutedExactly =
+    (f : Frame) (b : List ℕ) → Bytes b
+    → (f .filedata ≡ true → bodyOf f b ≡ CantProcess)
+    × (f .filedata ≡ false → (bodyOf f b ≡ Malformed) ↔ ((r : Body) → ByLayout (f .head .large) b r → ⊥))
+    × (f .filedata ≡ false → (r : Body) → ByLayout (f .head .large) b r
+    → (f .tosender ≡ true → bodyOf f b ≡ r) × (f .tosender ≡ false → bodyOf f b ≡ CantProcess))
 
 -- LAW widths-exactly: "width 1, 2, 4 or 8 bytes"
 abbrev pub WidthsExactly : Type 0
@@ -173,3 +203,17 @@ FrameExactly =
     (s : List ℕ) → Bytes s
     → ((framedIn s ≡ NoFrame) ↔ ((f : Frame) (body : List ℕ) → IsPdu s f body → ⊥))
     × ((f : Frame) (body : List ℕ) → IsPdu s f body → (framedIn s ≡ Whole f) × (bodyIn s ≡ body))
+
+-- bytes that are a sender's PDU by the layouts: a frame towards the receiver, and in it the layout of what the PDU says, but for bits that are not judged
+pub record IsSaid (s : List ℕ) (p : Pdu) : Type 0 where
+  pub body : List ℕ
+  pub framed : IsPdu s (record { head = p .head; filedata = isFileData (p .said); tosender = false; start = H (p .head); end = H (p .head) + length body }) body
+  pub sayable : Sayable (p .head) (p .said)
+  pub says : wire (layout (p .head .large) (p .said)) ≡ pick (isFileData (p .said)) body (cleared body)
+
+-- LAW decode-exactly: bytes are read as a sender's PDU exactly if they are that PDU by the layouts, and as none exactly if they are none.
+abbrev pub DecodeExactly : Type 0
+DecodeExactly =
+    (s : List ℕ) → Bytes s
+    → ((p : Pdu) → (decode s ≡ some p) ↔ IsSaid s p)
+    × ((decode s ≡ none) ↔ ((p : Pdu) → IsSaid s p → ⊥))
