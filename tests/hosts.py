@@ -114,6 +114,12 @@ class Rust:
         run(self.words + options + [*words, source, '-o', out], env=self.env)
         return out
 
+    def package(self, folder, name, target):
+        """A package of the cargo workspace in `folder` as such an archive; cargo builds in `target`, and fetches nothing."""
+        words = ['cargo', 'build', '--offline', '--release', '--quiet', '-j1', '-p', name, '--target', TRIPLE]
+        run(words, cwd=folder, env=dict(self.env, RUSTC=self.words[0], CARGO_TARGET_DIR=target))
+        return os.path.join(target, TRIPLE, 'release', 'lib%s.a' % name)
+
 
 def rust(say=print):
     """A Rust, or (None, why there is none)."""
@@ -132,6 +138,11 @@ def rust(say=print):
             return None, why
     libs = [os.path.join(folder, 'usr', 'lib', d) for d in sorted(os.listdir(os.path.join(folder, 'usr', 'lib'))) if d.endswith('-linux-gnu')]
     return Rust([os.path.join(folder, 'usr', 'bin', 'rustc'), '--sysroot', os.path.join(folder, 'usr')], {'LD_LIBRARY_PATH': ':'.join(libs)}), ''
+
+
+def rust_with_cargo():
+    """A Rust, where cargo is here too, or (None, why there is none)."""
+    return rust() if shutil.which('cargo') else (None, 'no cargo here')
 
 
 def fetch(folder, say):
