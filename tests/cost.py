@@ -84,14 +84,11 @@ def seam():
 
 def source_rs(steps, passes):
     """The same data step and the same pass through source.rs over the stand-ins."""
-    rust, why = hosts.rust()
-    if not rust or not shutil.which('cargo'):
-        print('SKIPPED: the step through source.rs: ' + (why or 'no cargo here'))
+    rust, why = hosts.rust_with_cargo()
+    if not rust:
+        print('SKIPPED: the step through source.rs: ' + why)
         return
-    target = os.path.join(hosts.TARGET, 'cfdp-rs-x86')
-    hosts.run(['cargo', 'build', '--offline', '--release', '--quiet', '-j1', '-p', 'cost', '--target', hosts.TRIPLE], cwd=os.path.join(HERE, 'cfdp-rs'),
-              env=dict(rust.env, RUSTC=rust.words[0], CARGO_TARGET_DIR=target))
-    program = hosts.linked('cost_rs', [os.path.join(target, hosts.TRIPLE, 'release', 'libcost.a')])
+    program = hosts.linked('cost_rs', [rust.package(os.path.join(HERE, 'cfdp-rs'), 'cost', os.path.join(hosts.TARGET, 'cfdp-rs'))])
     for name, crc, step, whole in zip(('no CRC', 'CRC'), '01', steps, passes):
         theirs = instructions(program, '4', crc) - instructions(program, '3', crc)
         shown('source.rs over stand-ins, the same data PDU, ' + name, '%s; ours is %.2f times that' % (comma(theirs), step / theirs))

@@ -1,6 +1,6 @@
-"""Builds and runs hosts of the archive of `rt staticlib`, on either kind of processor. Used by tests/link and tests/cost.py.
+"""Builds and runs hosts of the archives of `rt staticlib`, on either kind of processor. Used by tests/link, tests/compare and tests/cost.py.
 
-The archive is x86-64. On x86-64 hosts are built by the machine's own cc and rustc and run as they are. On any other processor C goes through the kit's clang, its linker
+An archive is x86-64. On x86-64 hosts are built by the machine's own cc and rustc and run as they are. On any other processor C goes through the kit's clang, its linker
 and its emulator, and Rust through a rustc that has the x86-64 standard library: the machine's own if it has it, else Debian's, fetched by apt-get into
 target/x86-rust (nothing is installed, no right beyond writing there is needed).
 """
@@ -72,6 +72,11 @@ def emulator():
     return [os.path.join(tools(), 'bin', 'qemu-x86_64'), os.path.join(lib, 'ld-linux-x86-64.so.2'), '--library-path', lib]
 
 
+def unrunnable():
+    """Why no program for x86-64 can be run here, or ''."""
+    return '' if NATIVE or os.access(emulator()[0], os.X_OK) else 'no x86-64 processor here, and no emulator for it in the kit'
+
+
 # ---- C
 
 def own_cc():
@@ -89,6 +94,7 @@ def c_object(source, name, *words):
 
 def linked(name, files):
     """Links objects and archives with the C library."""
+    os.makedirs(BUILD, exist_ok=True)
     out = os.path.join(BUILD, name)
     if own_cc():
         run([own_cc(), '-o', out] + files + ['-lpthread', '-ldl', '-lm'])
@@ -114,6 +120,12 @@ class Rust:
         run(self.words + options + [*words, source, '-o', out], env=self.env)
         return out
 
+    def package(self, folder, name, target):
+        """A package of the cargo workspace in `folder` as such an archive; cargo builds in `target`, and fetches nothing."""
+        words = ['cargo', 'build', '--offline', '--release', '--quiet', '-j1', '-p', name, '--target', TRIPLE]
+        run(words, cwd=folder, env=dict(self.env, RUSTC=self.words[0], CARGO_TARGET_DIR=target))
+        return os.path.join(target, TRIPLE, 'release', 'lib%s.a' % name)
+
 
 def rust(say=print):
     """A Rust, or (None, why there is none)."""
@@ -132,6 +144,11 @@ def rust(say=print):
             return None, why
     libs = [os.path.join(folder, 'usr', 'lib', d) for d in sorted(os.listdir(os.path.join(folder, 'usr', 'lib'))) if d.endswith('-linux-gnu')]
     return Rust([os.path.join(folder, 'usr', 'bin', 'rustc'), '--sysroot', os.path.join(folder, 'usr')], {'LD_LIBRARY_PATH': ':'.join(libs)}), ''
+
+
+def rust_with_cargo():
+    """A Rust, where cargo is here too, or (None, why there is none)."""
+    return rust() if shutil.which('cargo') else (None, 'no cargo here')
 
 
 def fetch(folder, say):
@@ -173,3 +190,33 @@ def packages(o, here):
     std = re.search(r'libstd-rust\S*', about(std_dev, 'Depends')).group(0)
     llvm = re.search(r'libllvm\S*', about(std, 'Depends')).group(0).rstrip(',')
     return ['%s:%s' % (p, here) for p in (rustc, std, std_dev, llvm)] + [std_dev + ':amd64']
+
+
+# ---- hosts of crate `host`
+
+class Lists:
+    """A running host with the archive of `host` in it, which takes lists of calls as lines: tests/host/lists.c, or the harness of tests/cfdp-rs."""
+
+    def __init__(self, name, file):
+        words = emulator() + [linked(name, [file, archive('host')])]
+        self.process = subprocess.Popen(words, stdin=subprocess.PIPE, stdout=subprocess.PIPE, text=True)
+
+    def say(self, line):
+        self.process.stdin.write(line + '\n')
+
+    def heard(self):
+        """The next line that it prints."""
+        self.process.stdin.flush()
+        line = self.process.stdout.readline()
+        if not line:
+            raise Failed('the host ended: status %d' % self.process.wait())
+        return line.rstrip('\n')
+
+    def answers(self, calls, file):
+        """Our handler's answers to a list of calls over a file, all three as docs/HOST.md has them."""
+        self.say('ours %s %s' % (calls.hex(), file.hex()))
+        return bytes.fromhex(self.heard())
+
+
+def c_lists():
+    return Lists('lists', c_object(os.path.join(TESTS, 'host', 'lists.c'), 'lists'))

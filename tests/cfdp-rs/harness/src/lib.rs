@@ -1,15 +1,20 @@
-//! Runs calls on a fresh SourceHandler (cfdp-rs 0.3.0's source.rs, unchanged) and prints what each gives.
+//! Runs calls on a fresh SourceHandler (cfdp-rs 0.3.0's source.rs, unchanged) and prints what each gives; and, in the same
+//! process, lists of calls on our handler, by the C function of crate `host` (docs/HOST.md), whose archive is linked in.
 //!
 //! Standard input, a line at a time:
-//!   case k=v ..      a fresh handler; the keys are all given (see `case`)
+//!   ours CALLS FILE  our handler: a list of calls over a file, both in hex; it prints the answers in hex, one line
+//!   case k=v ..      a fresh handler of the Rust; the keys are all given (see `case`)
 //!   entry k=v ..     one more entry of the remote table, before the first call
 //!   file HEX | size N   what the file holds; N > 2^24 makes a sparse file of zeros
 //!   put [nosrc] | step | deliver HEX | cancel NUMBER | expire | reset     the calls
 //! `expire` shows every live timer as expired until it is restarted (a level).
 //!
-//! Standard output for each line but `entry`: `P HEX` a PDU, `E ..` an event, in the order of the handler's
-//! own calls, `= ..` the call's result, and last `. STATE STEP`. After a panic: `! MESSAGE`, and
-//! nothing more until the next case.
+//! Standard output for `file`, `size` and each call: `P HEX` a PDU, `E ..` an event, in the order of the handler's own
+//! calls, `= ..` the call's result, and last `. STATE STEP`. After a panic: `! MESSAGE`, and nothing more until the next
+//! case.
+//!
+//! An archive with C's `main`, because an ordinary program makes std read /proc/self/maps, which the kit's emulator does not
+//! bear.
 use cfdp::{
     FaultInfo, GenericSendError, IndicationConfig, LocalEntityConfig, PduRawWithInfo, PduSender,
     RemoteConfigList, RemoteEntityConfig, TimerContext, TimerCreator, TransactionId, UserFaultHook,
@@ -38,10 +43,12 @@ thread_local! {
     static CLOCK: Cell<u64> = const { Cell::new(0) };
 }
 fn hex(b: &[u8]) -> String {
-    b.iter().map(|x| format!("{x:02X}")).collect()
+    let digits = b.iter().flat_map(|x| [x >> 4, x & 15]);
+    digits.map(|d| b"0123456789ABCDEF"[d as usize] as char).collect()
 }
 fn unhex(s: &str) -> Vec<u8> {
-    (0..s.len() / 2).map(|i| u8::from_str_radix(&s[2 * i..2 * i + 2], 16).unwrap()).collect()
+    let digits: Vec<u32> = s.chars().map(|c| c.to_digit(16).unwrap()).collect();
+    digits.chunks(2).map(|d| (d[0] << 4 | d[1]) as u8).collect()
 }
 
 struct Sender;
@@ -261,15 +268,38 @@ impl Keys {
     }
 }
 
+unsafe extern "C" {
+    /// include/tsendrivaty_host.h
+    fn tsendrivaty_run(
+        calls: *const u8,
+        calls_length: usize,
+        file: *const u8,
+        file_length: usize,
+        answers: *mut u8,
+        answers_length: usize,
+    ) -> u64;
+}
+/// What our handler answers to a list of calls, in front of the lent room.
+fn ours<'a>(calls: &[u8], file: &[u8], room: &'a mut [u8]) -> &'a [u8] {
+    let (to, length) = (room.as_mut_ptr(), room.len());
+    // SAFETY: three slices that don't overlap; none of the pointers is null, also for length 0.
+    let n = unsafe { tsendrivaty_run(calls.as_ptr(), calls.len(), file.as_ptr(), file.len(), to, length) };
+    &room[..n as usize]
+}
+
 /// The next line without its end, or none.
 fn next_line(input: &mut StdinLock) -> Option<String> {
     let mut line = String::new();
     let n = input.read_line(&mut line).unwrap();
     (n > 0).then(|| line.trim_end().to_string())
 }
+/// Whether a line ends the case before it.
+fn begins(line: &str) -> bool {
+    line.starts_with("case ") || line.starts_with("ours ")
+}
 
 /// The keys of a `case` line: w, src, dw, dst (ids), sw, seq, mode, closure (the put's), events (1 EOF-sent, 2
-/// finished), fault1, fault10 (actions), name, dname (hex). Gives the next `case` line, or none.
+/// finished), fault1, fault10 (actions), name, dname (hex). Gives the line that ends the case, or none.
 fn case<C: SequenceCounter>(k: &Keys, counter: C, input: &mut StdinLock) -> Option<String> {
     CLOCK.set(0);
     let path = std::env::temp_dir().join(format!("cfdp-harness-{}", std::process::id()));
@@ -300,7 +330,7 @@ fn case<C: SequenceCounter>(k: &Keys, counter: C, input: &mut StdinLock) -> Opti
         closure: k.flag("closure"),
     };
     let mut dead = false;
-    while let Some(l) = line.as_ref().filter(|l| !l.starts_with("case ")) {
+    while let Some(l) = line.as_ref().filter(|l| !begins(l)) {
         let (verb, rest) = l.split_once(' ').unwrap_or((l, ""));
         let call = AssertUnwindSafe(|| match verb {
             "file" => std::fs::write(&path, unhex(rest)).unwrap(),
@@ -346,18 +376,33 @@ fn sized(path: &str, n: u64) {
     }
 }
 
-fn main() {
+/// A `case` line and what belongs to it.
+fn sized_case(line: &str, input: &mut StdinLock) -> Option<String> {
+    let k = Keys::of(line);
+    let seq = k.num("seq");
+    match k.num("sw") {
+        1 => case(&k, CounterU8::starting_at(seq as u8), input),
+        2 => case(&k, CounterU16::starting_at(seq as u16), input),
+        4 => case(&k, CounterU32::starting_at(seq as u32), input),
+        _ => case(&k, CounterU64::starting_at(seq), input),
+    }
+}
+
+#[unsafe(no_mangle)]
+pub extern "C" fn main(_: i32, _: *const *const u8) -> i32 {
     std::panic::set_hook(Box::new(|_| ()));
     let mut input = std::io::stdin().lock();
+    let mut room = vec![0; 1 << 20]; // a list whose answers are longer ends with a status that tests/compare refuses
     let mut line = next_line(&mut input);
     while let Some(l) = line {
-        let k = Keys::of(&l);
-        let seq = k.num("seq");
-        line = match k.num("sw") {
-            1 => case(&k, CounterU8::starting_at(seq as u8), &mut input),
-            2 => case(&k, CounterU16::starting_at(seq as u16), &mut input),
-            4 => case(&k, CounterU32::starting_at(seq as u32), &mut input),
-            _ => case(&k, CounterU64::starting_at(seq), &mut input),
+        line = match l.strip_prefix("ours ") {
+            Some(list) => {
+                let (calls, file) = list.split_once(' ').unwrap_or((list, ""));
+                println!("{}", hex(ours(&unhex(calls), &unhex(file), &mut room)));
+                next_line(&mut input)
+            }
+            None => sized_case(&l, &mut input),
         };
     }
+    0
 }
