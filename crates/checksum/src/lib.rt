@@ -1,5 +1,6 @@
 // The checksums of filestore.rs over bytes that are lent, and the CRC-16 that closes a PDU: each equal to its definition in `rules_leaves`.
 // They are total: any type, any bytes, any number of bytes asked for.
+// After cfdp-rs 0.3.0, src/filestore.rs (Apache-2.0); changed, see NOTICE.
 mod tables;
 
 use crate::tables::EIGHTS_16;

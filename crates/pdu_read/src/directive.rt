@@ -1,4 +1,5 @@
 // A body in its frame: which reader its directive code picks, and what the frame refuses.
+// Which PDUs are a sender's: after cfdp-rs 0.3.0, src/lib.rs (Apache-2.0); changed, see NOTICE.
 use crate::ack::ack_in;
 use crate::field::part_of;
 use crate::field::up_to;

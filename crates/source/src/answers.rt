@@ -1,4 +1,5 @@
 // Answers as document 01's numbers, for hosts that read numbers.
+// After cfdp-rs 0.3.0, src/source.rs (Apache-2.0); changed, see NOTICE.
 use types::Answer;
 use types::Refusal;
 ghost use mathlib.Core.Path.{_≡_};

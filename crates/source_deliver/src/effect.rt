@@ -1,5 +1,6 @@
 // What a delivery comes to, and what that does to the state. It is decided before anything is changed: a caller who holds the state elsewhere has no more to
 // change than what the effect says.
+// After cfdp-rs 0.3.0, src/source.rs (Apache-2.0); changed, see NOTICE.
 use source_queue::nak::push_all;
 use source_state::to_step;
 use types::Answer;

@@ -1,4 +1,5 @@
 // A NAK is taken whole or refused whole. Its requests are read from the delivered bytes, once to judge them and once to take them; nothing is copied.
+// After cfdp-rs 0.3.0, src/source.rs (Apache-2.0); changed, see NOTICE.
 use crate::effect::Effect;
 use source_queue::free;
 use source_queue::nak::first_pair;

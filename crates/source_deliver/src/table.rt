@@ -1,4 +1,5 @@
 // "Answer to a PDU that passed 20, 21 and 23": by row the step, by column the kind of PDU.
+// After cfdp-rs 0.3.0, src/source.rs (Apache-2.0); changed, see NOTICE.
 use types::Meaning;
 use types::Row;
 use types::TransactionStep;

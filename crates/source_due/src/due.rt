@@ -1,4 +1,5 @@
 // What is due: "A step does the first that applies". The numbers are those of document 01's list.
+// After cfdp-rs 0.3.0, src/source.rs (Apache-2.0); changed, see NOTICE.
 use basis::fields::wide;
 use types::Due;
 use types::State;

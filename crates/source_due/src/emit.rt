@@ -1,4 +1,5 @@
 // The PDU due becomes bytes in front of the out buffer.
+// After cfdp-rs 0.3.0, src/source.rs (Apache-2.0); changed, see NOTICE.
 use basis::fields::lesser;
 use pdu_write::ack::write_ack_finished;
 use pdu_write::eof::write_eof;

@@ -1,4 +1,5 @@
 // The PDU of each case.
+// After cfdp-rs 0.3.0, src/source.rs (Apache-2.0); changed, see NOTICE.
 use checksum::sum_of;
 use types::Due;
 use types::Eof;

@@ -1,4 +1,5 @@
 // What a put asks of its ids, of the configuration, and of the names' lengths.
+// After cfdp-rs 0.3.0, src/source.rs and src/lib.rs (Apache-2.0); changed, see NOTICE.
 use crate::numbers::fits;
 use types::EntityId;
 use types::LocalEntityConfig;

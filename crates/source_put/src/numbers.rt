@@ -1,4 +1,5 @@
 // "Numbers": widths, the next sequence number, and L.
+// After cfdp-rs 0.3.0, src/source.rs (Apache-2.0); changed, see NOTICE.
 use basis::fields::bit_of;
 use std::num::wrapping_add_u64;
 use types::Head;

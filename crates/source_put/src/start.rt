@@ -1,4 +1,5 @@
 // What a put makes of the entry found: the head, the refusals 4 to 8 over it, and the state's groups.
+// After cfdp-rs 0.3.0, src/source.rs (Apache-2.0); changed, see NOTICE.
 use crate::config::good_config;
 use crate::config::good_lengths;
 use crate::numbers::is_large;

@@ -1,5 +1,6 @@
 // The requests of a NAK, read from the delivered bytes one pair after another: once to be judged, once to be stored behind the queue. A pair past the end is (0, 0) wherever it stands, so a
 // place that would lie behind the end stays at it.
+// After cfdp-rs 0.3.0, src/source.rs (Apache-2.0); changed, see NOTICE.
 use crate::invalid;
 use crate::owes;
 use basis::fields::bit_of;

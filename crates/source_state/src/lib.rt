@@ -1,4 +1,5 @@
 // The handler's state: its groups changed one at a time, the steps told apart, and Idle. An enum field is never stored to: `to_step` makes the state anew.
+// After cfdp-rs 0.3.0, src/source.rs (Apache-2.0); changed, see NOTICE.
 use types::EntityId;
 use types::Eof;
 use types::FileParams;

@@ -1,4 +1,5 @@
 // The state after each case of a step. The numbers are those of document 01's list.
+// After cfdp-rs 0.3.0, src/source.rs (Apache-2.0); changed, see NOTICE.
 
 use source_due::sending::next_length;
 use source_state::no_eof;

@@ -1,4 +1,5 @@
 // What a step does to the names and the queue, most of the state's bytes. In most cases nothing: then a caller who holds the state elsewhere need not touch them.
+// After cfdp-rs 0.3.0, src/source.rs (Apache-2.0); changed, see NOTICE.
 use types::Due;
 use types::State;
 ghost use mathlib.Core.Path.{_≡_};

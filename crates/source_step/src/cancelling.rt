@@ -1,4 +1,5 @@
 // Whether a user's cancel is taken.
+// After cfdp-rs 0.3.0, src/source.rs (Apache-2.0); changed, see NOTICE.
 use types::EntityId;
 use types::State;
 use types::TransactionSeqNum;

@@ -1,4 +1,5 @@
 // The events of each case, one record in their fixed order.
+// After cfdp-rs 0.3.0, src/source.rs (Apache-2.0); changed, see NOTICE.
 use types::Due;
 use types::Events;
 use types::FaultEvent;

@@ -1,5 +1,6 @@
 // What a step comes to. Its PDU, if one is due, already stands in front of the out buffer; the state is not changed yet: a caller who holds it elsewhere has no
 // more to change than what the outcome says.
+// After cfdp-rs 0.3.0, src/source.rs (Apache-2.0); changed, see NOTICE.
 use types::Answer;
 use types::Due;
 use types::Eof;
