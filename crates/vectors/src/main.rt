@@ -2,6 +2,7 @@
 // held to the vector's bytes and taken apart by a decoder of its own. tests/make_vectors.py makes the vectors and says their format.
 mod decoder;
 mod delivered;
+mod metadata;
 mod run;
 mod take;
 mod written;

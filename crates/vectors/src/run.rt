@@ -1,10 +1,10 @@
 // Each kind of vector: what the crates say of it, held to what the vector says.
 use crate::delivered::delivery_vector;
+use crate::metadata::metadata_vector;
 use crate::take;
 use crate::written::ack_vector;
 use crate::written::data_vector;
 use crate::written::eof_vector;
-use crate::written::metadata_vector;
 use pdu_read::field::byte_at;
 use pdu_read::field::part_of;
 use types::Checksum;
