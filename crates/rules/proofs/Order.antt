@@ -49,8 +49,7 @@ hits f false x y k P rs t e r = record { is = inr (t .no refl, r refl .is) }
 -- a line of a table of tests beside one of a table of conditions
 pub line : (r : Refusal) (b : Bool) (rest : Answer) (P : Type 0) (rs : List Rule)
     → Tells b P → (b ≡ false → First rs (answerNo rest)) → First ((refusalNo r when P) ∷ rs) (answerNo (pick b (Refused r) rest))
-line r true rest P rs t f = record { is = inl (t .yes refl, refl) }
-line r false rest P rs t f = record { is = inr (t .no refl, f refl .is) }
+line r b rest P rs t f = hits answerNo b (Refused r) rest (refusalNo r) P rs t refl f
 
 -- none holds
 pub passes : First [] 0

@@ -46,7 +46,7 @@ cantProcess NoPdu = false
 cantProcess CantProcess = true
 cantProcess (Means m) = false
 
--- the meaning of a PDU that is neither; 20 and 21 have none that counts
+-- the meaning of a PDU that is neither; for 20 and 21 no line behind theirs is reached
 abbrev pub meaningOf : Body → Meaning
 meaningOf NoPdu = KeepAlive 0
 meaningOf CantProcess = KeepAlive 0

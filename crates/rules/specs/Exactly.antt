@@ -46,8 +46,7 @@ abbrev pub NoneOf : List Rule → Type 0
 NoneOf [] = Unit {0}
 NoneOf ((k when holds) ∷ rs) = (¬ holds) × NoneOf rs
 
--- n is the number that these lines give, behind the earlier ones: each number exactly if its condition holds and none before it does; 0, accepted,
--- exactly if none does
+-- n is the number given, for these lines behind the earlier ones: a line's number exactly if its condition holds and none before it does; 0, accepted, exactly if none holds
 abbrev pub After : (earlier : List Rule) → List Rule → ℕ → Type 0
 After earlier [] n = (n ≡ 0) ↔ NoneOf earlier
 After earlier ((k when holds) ∷ rs) n = ((n ≡ k) ↔ (holds × NoneOf earlier)) × After ((k when holds) ∷ earlier) rs n

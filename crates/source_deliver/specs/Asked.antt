@@ -1,4 +1,4 @@
--- Questions that the code of a delivery asks of a PDU, besides document 01's own.
+-- Questions that the code of a delivery asks of a PDU and of the state, besides document 01's own.
 -- Assumes nothing.
 use mathlib.Core.Bool.{Bool}
 use Prim.Native.Nat.{ℕ}
