@@ -69,6 +69,27 @@ pub read : map decode onTheLink ≡ map some sent
 unfolding num part byte numAt goodWidth bitIn versionIn fileDataIn toSenderIn unacknowledgedIn crcIn largeIn lengthIn idWidthIn seqWidthIn headIn bodyIn crcAgrees crcGood wellFramed reserved metadataIn dataIn eofIn ackFinishedIn saidIn decode crc16 crc16Byte
 read = refl
 
+-- bits that are not judged: M1 with Metadata's reserved bits set, M2 with segmentation control and segment metadata flag, M4 and M8 with their spare bits
+abbrev pub bitsSet : List (List ℕ × Pdu)
+bitsSet = (
+  0x24 ∷ 0x00 ∷ 0x0A ∷ 0x00 ∷ 0x01 ∷ 0x07 ∷ 0x02 ∷ 0x07 ∷ 0xB0 ∷ 0x00 ∷ 0x00 ∷ 0x00 ∷ 0x05 ∷ 0x01 ∷ 0x61 ∷ 0x01 ∷ 0x62 ∷ [],
+  record { head = plain true; said = metadata false 0 5 (0x61 ∷ []) (0x62 ∷ []) },
+)
+    ∷ (
+      0x34 ∷ 0x00 ∷ 0x08 ∷ 0x88 ∷ 0x01 ∷ 0x07 ∷ 0x02 ∷ 0x00 ∷ 0x00 ∷ 0x00 ∷ 0x00 ∷ 0x41 ∷ 0x42 ∷ 0x43 ∷ 0x44 ∷ [],
+      record { head = plain true; said = fileData 0 (0x41 ∷ 0x42 ∷ 0x43 ∷ 0x44 ∷ []) },
+    )
+    ∷ (
+      0x24 ∷ 0x00 ∷ 0x0A ∷ 0x00 ∷ 0x01 ∷ 0x07 ∷ 0x02 ∷ 0x04 ∷ 0x0F ∷ 0x86 ∷ 0x42 ∷ 0x43 ∷ 0x44 ∷ 0x00 ∷ 0x00 ∷ 0x00 ∷ 0x05 ∷ [],
+      record { head = plain true; said = eof 0 0x86424344 5 },
+    )
+    ∷ (0x20 ∷ 0x00 ∷ 0x03 ∷ 0x00 ∷ 0x01 ∷ 0x07 ∷ 0x02 ∷ 0x06 ∷ 0x51 ∷ 0x0D ∷ [], record { head = plain false; said = ackFinished 0 1 })
+    ∷ []
+
+pub unjudged : map (λ (c : List ℕ × Pdu). decode (c .0)) bitsSet ≡ map (λ (c : List ℕ × Pdu). some (c .1)) bitsSet
+unfolding num part byte numAt goodWidth bitIn versionIn fileDataIn toSenderIn unacknowledgedIn crcIn largeIn lengthIn idWidthIn seqWidthIn headIn bodyIn crcAgrees crcGood wellFramed reserved metadataIn dataIn eofIn ackFinishedIn saidIn decode
+unjudged = refl
+
 -- what is no sender's PDU: M1 whose second name ends behind the body; M4 with a byte more; M8 with subtype 0, and towards the sender;
 -- file data that ends inside its offset; another code; M4 with condition 12, M8 with condition 13
 abbrev pub noPdu : List (List ℕ)
