@@ -8,7 +8,7 @@ use Rattle.rules_pdu.specs.Reading.{frameIn}
 use Rattle.rules.specs.Refusals.{byAnswer}
 use Rattle.rules.specs.Deliver.{saidIn, asked, isRefuse, verdictOf, byVerdict, deliverAnswer, deliverState, deliverSpec}
 use Rattle.rules.specs.Runs.{requests}
-use Rattle.rules.specs.Leaves.{Meant, DeliverLeaves}
+use Rattle.rules.specs.Leaves.{ReadAs, DeliverLeaves}
 use Rattle.types.specs.declared.FinishedParams.{FinishedParams}
 use Rattle.types.specs.declared.Meaning.{Meaning}
 use Rattle.types.specs.declared.Meaning.the-variants.{Finished, AckOfEof, Nak, KeepAlive}
@@ -77,7 +77,7 @@ record Heeded (s : State) (bytes : List ℕ) (m : Meaning) : Type 0 where
   left : deliverSpec s bytes .state ≡ byVerdict s (asked bytes (frameIn bytes) m) m (verdictOf (s .step) m)
   asks : asked bytes (frameIn bytes) m ≡ requests bytes
 
-heeded : (s : State) (bytes : List ℕ) (m : Meaning) → deliverSpec s bytes .answer ≡ Accepted → Meant bytes m → Heeded s bytes m
+heeded : (s : State) (bytes : List ℕ) (m : Meaning) → deliverSpec s bytes .answer ≡ Accepted → ReadAs bytes m → Heeded s bytes m
 unfolding deliverSpec deliverState saidIn
 heeded s bytes m a h = go (saidIn bytes) refl (rw (h .0) (h .1))
   where

@@ -16,7 +16,7 @@ use Rattle.rules.specs.Step.{eofOwed, dueOf, eofFor, nextLength, afterCa
 use Rattle.rules.specs.Cancel.{mayCancel, userCancelled, cancelSpec, resetSpec, newSpec}
 use Rattle.rules.specs.Good.{At, Good}
 use Rattle.rules.specs.Says.{Applies, item-1, item-2, item-3, item-4, item-5, item-6-again, item-6-fault, item-7, item-8, item-9, Declared, cancels, ignores, abandons, once-cancelled}
-use Rattle.rules.specs.Leaves.{Cleared, Back, IdleCleared, Left, StepLeft, CancelLeaves}
+use Rattle.rules.specs.Leaves.{NothingKept, Back, IdleCleared, Left, StepLeft, CancelLeaves}
 use Rattle.types.specs.declared.EntityId.{EntityId}
 use Rattle.types.specs.declared.TransactionSeqNum.{TransactionSeqNum}
 use Rattle.types.specs.declared.State.{State}
@@ -32,7 +32,7 @@ use Rattle.rules.proofs.Says.{lent-whole, step-taken, due-says}
 
 -- ---- Idle
 
-cleared-idle : (n : TransactionSeqNum) → Cleared (idle n)
+cleared-idle : (n : TransactionSeqNum) → NothingKept (idle n)
 unfolding idle
 cleared-idle n =
     record {
@@ -58,7 +58,7 @@ idle-cleared =
     record {
       new = λ n. (refl, cleared-idle n);
       reset = back;
-      every = λ s g e. subst Cleared (sym (subst (λ (k : TransactionStep). At k s) e (g .here))) (cleared-idle (s .number));
+      every = λ s g e. subst NothingKept (sym (subst (λ (k : TransactionStep). At k s) e (g .here))) (cleared-idle (s .number));
     }
 
 -- ---- a step

@@ -245,17 +245,17 @@ module _ (s : State) (file : List ℕ) (g : Good s) (y : Bytes file) where
 
 -- ---- an accepted step
 
-pub record Taken (s : State) (file : List ℕ) (expired : Bool) (room : ℕ) (r : Stepped) : Type 0 where
+pub record Unrefused (s : State) (file : List ℕ) (expired : Bool) (room : ℕ) (r : Stepped) : Type 0 where
   pub unchanged : changed s (length file) ≡ false
   pub fits : length (bytesDue s file expired) ≤ room
   pub length-is : r .length ≡ length (bytesDue s file expired)
   pub state-is : r .state ≡ afterOf s file (dueOf s expired)
   pub events-are : r .events ≡ eventsOf s (dueOf s expired)
 
-pub step-taken : (s : State) (file : List ℕ) (expired : Bool) (room : ℕ) → stepSpec s file expired room .answer ≡ Accepted → Taken s file expired room (stepSpec s file expired room)
+pub step-taken : (s : State) (file : List ℕ) (expired : Bool) (room : ℕ) → stepSpec s file expired room .answer ≡ Accepted → Unrefused s file expired room (stepSpec s file expired room)
 unfolding stepSpec performed
 step-taken s file expired room =
-    let P : Stepped → Type 0 = λ r. r .answer ≡ Accepted → Taken s file expired room r in
+    let P : Stepped → Type 0 = λ r. r .answer ≡ Accepted → Unrefused s file expired room r in
     cases P (changed s (length file)) _ _ (λ t e. absurd (refused≢accepted _ e))
     (λ t. cases P (ltb room (length (bytesDue s file expired))) _ _ (λ u e. absurd (refused≢accepted _ e))
     (λ u e. record { unchanged = t; fits = ltb-false room _ u; length-is = refl; state-is = refl; events-are = refl }))

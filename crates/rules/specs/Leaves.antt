@@ -38,7 +38,7 @@ abbrev pub EmptyQueue : Queue → Type 0
 EmptyQueue q = (q .count ≡ 0) × (q .places ≡ replicate 64 (record { start = 0; end = 0 }))
 
 -- Idle, and nothing else kept
-pub record Cleared (t : State) : Type 0 where
+pub record NothingKept (t : State) : Type 0 where
   pub step : t .step ≡ Idle
   pub flags : let h = t .fixed .head in (h .unacknowledged ≡ false) × (h .crc ≡ false) × (h .large ≡ false)
   pub ids : let h = t .fixed .head in (h .source ≡ (0, 0)) × (h .number ≡ (0, 0)) × (h .destination ≡ (0, 0))
@@ -53,13 +53,13 @@ pub record Cleared (t : State) : Type 0 where
 
 -- back to Idle
 abbrev pub Back : State → State → Type 0
-Back s t = (t .number ≡ s .number) × Cleared t
+Back s t = (t .number ≡ s .number) × NothingKept t
 
 -- PROMISE idle-cleared: a new handler and a reset one are Idle with the number, and every reachable state that is Idle has nothing else.
 pub record IdleCleared : Type 0 where
-  pub new : (n : TransactionSeqNum) → (newSpec n .number ≡ n) × Cleared (newSpec n)
+  pub new : (n : TransactionSeqNum) → (newSpec n .number ≡ n) × NothingKept (newSpec n)
   pub reset : (s : State) → Back s (resetSpec s)
-  pub every : (s : State) → Good s → s .step ≡ Idle → Cleared s
+  pub every : (s : State) → Good s → s .step ≡ Idle → NothingKept s
 
 -- ---- what stays
 
@@ -150,24 +150,24 @@ pub record CancelLeaves : Type 0 where
 -- ---- deliver
 
 -- bytes that are a PDU for a sender, with this meaning
-abbrev pub Meant : List ℕ → Meaning → Type 0
-Meant bytes m = (wellFramed bytes ≡ true) × (bodyOf (frameIn bytes) (bodyIn bytes) ≡ Means m)
+abbrev pub ReadAs : List ℕ → Meaning → Type 0
+ReadAs bytes m = (wellFramed bytes ≡ true) × (bodyOf (frameIn bytes) (bodyIn bytes) ≡ Means m)
 
 -- PROMISE deliver-leaves: what an accepted delivery leaves, by what the PDU means; all else is equal.
 pub record DeliverLeaves : Type 0 where
   -- "queue": those of its requests that owe a PDU stand behind the pending ones
-  pub nak : (s : State) (bytes : List ℕ) (n : ℕ) → Good s → deliverSpec s bytes .answer ≡ Accepted → Meant bytes (Nak n) → let t = deliverSpec s bytes .state in
+  pub nak : (s : State) (bytes : List ℕ) (n : ℕ) → Good s → deliverSpec s bytes .answer ≡ Accepted → ReadAs bytes (Nak n) → let t = deliverSpec s bytes .state in
       (pending (t .queue) ≡ pending (s .queue) ++ those owes (requests bytes))
       × (t .step ≡ s .step) × Same s t × (t .file ≡ s .file) × (t .marks ≡ s .marks)
   -- "WaitingForFinished"
-  pub ack : (s : State) (bytes : List ℕ) → deliverSpec s bytes .answer ≡ Accepted → Meant bytes AckOfEof → let t = deliverSpec s bytes .state in
+  pub ack : (s : State) (bytes : List ℕ) → deliverSpec s bytes .answer ≡ Accepted → ReadAs bytes AckOfEof → let t = deliverSpec s bytes .state in
       (t .step ≡ WaitingForFinished) × Same s t × (t .file ≡ s .file) × (t .queue ≡ s .queue) × (t .marks ≡ s .marks)
   -- "Closing; queue and owed EOF dropped"; in Idle no effect
-  pub finished : (s : State) (bytes : List ℕ) (p : FinishedParams) → deliverSpec s bytes .answer ≡ Accepted → Meant bytes (Finished p) → ¬ (s .step ≡ Idle)
+  pub finished : (s : State) (bytes : List ℕ) (p : FinishedParams) → deliverSpec s bytes .answer ≡ Accepted → ReadAs bytes (Finished p) → ¬ (s .step ≡ Idle)
       → let t = deliverSpec s bytes .state in
       (t .step ≡ Closing) × EmptyQueue (t .queue) × (t .marks .owed ≡ false) × (t .marks .finished ≡ p) × Same s t × (t .file ≡ s .file)
       × (t .marks .cancelled ≡ s .marks .cancelled) × (t .marks .condition ≡ s .marks .condition) × (t .marks .count ≡ s .marks .count)
       × (t .marks .anomalies ≡ s .marks .anomalies)
-  pub finished-idle : (s : State) (bytes : List ℕ) (p : FinishedParams) → deliverSpec s bytes .answer ≡ Accepted → Meant bytes (Finished p) → s .step ≡ Idle
+  pub finished-idle : (s : State) (bytes : List ℕ) (p : FinishedParams) → deliverSpec s bytes .answer ≡ Accepted → ReadAs bytes (Finished p) → s .step ≡ Idle
       → deliverSpec s bytes .state ≡ s
-  pub keep-alive : (s : State) (bytes : List ℕ) (p : ℕ) → deliverSpec s bytes .answer ≡ Accepted → Meant bytes (KeepAlive p) → deliverSpec s bytes .state ≡ s
+  pub keep-alive : (s : State) (bytes : List ℕ) (p : ℕ) → deliverSpec s bytes .answer ≡ Accepted → ReadAs bytes (KeepAlive p) → deliverSpec s bytes .state ≡ s

@@ -42,8 +42,8 @@ pub data Declared (s : State) (condition : ℕ) : Due → Type 0 where
   once-cancelled : s .marks .cancelled ≡ true → Declared s condition (FaultAbandon condition)
 
 -- 9: where neither 6 nor 7 declares anything
-abbrev pub Waits : State → Bool → Type 0
-Waits s expired =
+abbrev pub NothingDeclared : State → Bool → Type 0
+NothingDeclared s expired =
     (s .step ≡ Idle)
     ⊎ ((s .step ≡ WaitingForEofAck) × (expired ≡ false))
     ⊎ ((s .step ≡ WaitingForFinished) × ((s .fixed .head .unacknowledged ≡ false) ⊎ (expired ≡ false)))
@@ -59,7 +59,7 @@ pub data Applies (s : State) (expired : Bool) : Due → Type 0 where
   item-6-fault : Free s → s .step ≡ WaitingForEofAck → expired ≡ true → s .fixed .limit ≤ s .marks .count + 1 → {d : Due} → Declared s 1 d → Applies s expired d
   item-7 : Free s → s .step ≡ WaitingForFinished → s .fixed .head .unacknowledged ≡ true → expired ≡ true → {d : Due} → Declared s 10 d → Applies s expired d
   item-8 : Free s → s .step ≡ Closing → Applies s expired Close
-  item-9 : Free s → Waits s expired → Applies s expired Nothing
+  item-9 : Free s → NothingDeclared s expired → Applies s expired Nothing
 
 -- PROMISE due-applies: what is due applies. No two items of the list apply to one state, so nothing else is done.
 abbrev pub DueApplies : Type 0
