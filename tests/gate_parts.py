@@ -3,10 +3,10 @@
 
     .ci/run > gate.log; python3 tests/gate_parts.py gate.log
 
-Each crate's proof and each must-fail edit is printed by `rt` with its seconds by the clock, and .ci/run lets eight run at a time: a part's share is the eighth of its
+Each crate's proof and each must-fail edit is printed by `rt` with its seconds by the clock, and .ci/run lets some run at a time (its RT_JOBS): a part's share is that part of its
 sum. `rt` waits for all that it started before it starts more, so fewer run at times, and the shares add up to less than the gate's time.
 """
-import re, sys
+import os, re, sys
 
 PARTS = [
     ('leaves: basis, rules_leaves, utf8, checksum', r'basis|rules_leaves|utf8|checksum'),
@@ -16,6 +16,10 @@ PARTS = [
     ('the seam', r'seam\w*'),
     ('programs and what is under them', r'\w+'),
 ]
+
+
+with open(os.path.join(os.path.dirname(os.path.abspath(__file__)), '..', '.ci', 'run'), encoding='utf-8') as run:
+    AT_A_TIME = int(re.search(r'RT_JOBS:-(\d+)', run.read())[1])
 
 
 def part(crate):
@@ -34,8 +38,8 @@ def main():
             count[part(m[1])] += 1
     print('| Part | Proofs and runs | Must-fail edits | Share of the gate |\n|---|---|---|---|')
     for (name, _), p, e, n in zip(PARTS, proofs, edits, count):
-        print(f'| {name} | {p} s | {n} in {e} s | {(p + e) / 480:.1f} min |')
-    print(f'| all | {sum(proofs)} s | {sum(count)} in {sum(edits)} s | {(sum(proofs) + sum(edits)) / 480:.1f} min |')
+        print(f'| {name} | {p} s | {n} in {e} s | {(p + e) / 60 / AT_A_TIME:.1f} min |')
+    print(f'| all | {sum(proofs)} s | {sum(count)} in {sum(edits)} s | {(sum(proofs) + sum(edits)) / 60 / AT_A_TIME:.1f} min |')
 
 
 main()
