@@ -1,10 +1,11 @@
 // From the words to the summary: each function does one thing more and hands on to the next, so that nothing is written before all is well.
+use crate::capture;
 use crate::files;
 use crate::files::Loaded;
 use crate::frames;
+use crate::output::Output;
 use crate::put;
 use crate::run;
-use crate::run::Output;
 use crate::run::Pass;
 use libc::STDOUT_FILENO;
 use pdu_read::field::part_of;
@@ -181,30 +182,50 @@ fn with_frames(w: Words, file: &[u8], answers: &[u8], count: u64) {
 
 // ---- the pass
 
+// The output is opened last, when all else is well.
 fn with_state(w: Words, s: State, file: &[u8], answers: &[u8], count: u64) {
-    if w.out == 0 {
-        return with_output(w, s, file, answers, count, STDOUT_FILENO);
+    if w.pcap == 0 {
+        return with_capture(w, s, file, answers, count, -1);
     }
-    let fd = files::open_out(w.out);
+    let fd = capture::open(w.pcap);
     if fd < 0 {
         return;
     }
-    with_output(w, s, file, answers, count, fd);
-    closed(libc::close(fd));
+    with_capture(w, s, file, answers, count, fd);
+    closed(
+        libc::close(fd),
+        b"send: the capture could not be closed, so it may lack PDUs\n",
+    );
 }
 
-fn with_output(w: Words, s: State, file: &[u8], answers: &[u8], count: u64, fd: i32) {
+fn with_capture(w: Words, s: State, file: &[u8], answers: &[u8], count: u64, pcap: i32) {
+    if w.out == 0 {
+        return with_output(w, s, file, answers, count, pcap, STDOUT_FILENO);
+    }
+    let fd = files::open_over(w.out, 4);
+    if fd < 0 {
+        return;
+    }
+    with_output(w, s, file, answers, count, pcap, fd);
+    closed(
+        libc::close(fd),
+        b"send: the output could not be closed, so it may lack PDUs\n",
+    );
+}
+
+fn with_output(w: Words, s: State, file: &[u8], answers: &[u8], count: u64, pcap: i32, fd: i32) {
     let o = Output {
         fd: fd,
         form: w.form,
+        capture: pcap,
         timed: w.timed,
     };
     summary(run::to_the_end(s, file, answers, o), count);
 }
 
-fn closed(status: i32) {
+fn closed(status: i32, lacking: &[u8]) {
     if status < 0 {
-        tell::line(b"send: the output could not be closed, so it may lack PDUs\n");
+        tell::line(lacking);
     }
 }
 

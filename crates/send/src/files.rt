@@ -48,11 +48,11 @@ pub fn load(i: usize, skip: usize, buf: &mut [u8], limit: &[u8]) -> Loaded {
     l
 }
 
-// A descriptor of the file that argument i names behind "out=", emptied, or -1, and then it has been said.
-pub fn open_out(i: usize) -> i32 {
+// A descriptor of the file that argument i names behind its first `skip` bytes, emptied, or -1, and then it has been said.
+pub fn open_over(i: usize, skip: usize) -> i32 {
     let mut word = io::buffer();
     let n = os::arg(i, &mut word);
-    let fd = os::open_overwrite(part_of(&word[..n], 4, n));
+    let fd = os::open_overwrite(part_of(&word[..n], skip, n));
     if fd < 0 {
         tell::failed(&word[..n]);
     }

@@ -1,7 +1,9 @@
 // Puts a file on the link: `send FILE [word=value ..]` writes the PDUs that carry it. docs/SEND.md has the words and the framing.
+mod capture;
 mod command;
 mod files;
 mod frames;
+mod output;
 mod put;
 mod run;
 

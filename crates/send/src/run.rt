@@ -1,33 +1,24 @@
 // One pass: put, then step after step until the handler is idle or waits for an answer that nobody gives. An answer is delivered after each
 // step that emits nothing; with a limit, and no answer left, such a step is made again with the timer expired.
+use crate::capture;
 use crate::frames::frame_length;
 use crate::frames::next_frame;
 use crate::frames::on;
+use crate::output::Output;
+use crate::output::shown;
+use crate::output::written;
 use pdu_read::field::part_of;
-use send_text::code::answer;
 use send_text::pdu::Sum;
 use send_text::pdu::plus;
-use send_text::pdu::received;
-use send_text::pdu::sent;
 use send_text::pdu::sum_of;
 use send_text::tell;
 use send_text::tell::Tally;
-use send_text::text::hex_bytes;
-use send_text::text::hex_line;
-use send_text::text::text;
 use source_state::is_idle;
 use types::Answer;
 use types::Events;
 use types::Refusal;
 use types::State;
 use types::Stepped;
-
-// Where PDUs go and in which form (0 framed, 1 hex, 2 hex with its meaning), and whether the timer expires.
-pub struct Output {
-    pub fd: i32,
-    pub form: u8,
-    pub timed: bool,
-}
 
 // The handler, the answers' place and how many were delivered, the timer, whether to go on.
 pub struct Pass {
@@ -40,37 +31,6 @@ pub struct Pass {
 }
 
 // ---- what leaves
-
-fn framed(out: &mut [u8], pdu: &[u8]) -> usize {
-    let n = pdu.len();
-    let p = text(out, 0, &[(n / 256 % 256) as u8, (n % 256) as u8]);
-    text(out, p, pdu)
-}
-
-fn hexed(out: &mut [u8], pdu: &[u8]) -> usize {
-    let p = hex_bytes(out, 0, pdu);
-    text(out, p, b"\n")
-}
-
-fn told(out: &mut [u8], pdu: &[u8], repair: bool) -> usize {
-    let p = hex_line(out, b"-> ", pdu);
-    let q = sent(out, p, pdu, repair);
-    text(out, q, b"\n")
-}
-
-fn formed(out: &mut [u8], form: u8, pdu: &[u8], repair: bool) -> usize {
-    match form {
-        0 => framed(out, pdu),
-        1 => hexed(out, pdu),
-        _ => told(out, pdu, repair),
-    }
-}
-
-fn written(o: Output, pdu: &[u8], repair: bool) -> bool {
-    let mut out = [0u8; 16384];
-    let n = formed(&mut out, o.form, pdu, repair);
-    io::write_all(o.fd, part_of(&out, 0, n))
-}
 
 fn counted(t: Tally, pdu: &[u8], repair: bool) -> Tally {
     let mut v = t;
@@ -103,36 +63,33 @@ fn with_pdu(t: Pass, s: State, more: Tally) -> Pass {
     v
 }
 
+// How many PDUs have left or come.
+fn passed(t: Pass) -> u64 {
+    plus(t.tally.pdus, t.delivered)
+}
+
+// The pass after its PDU number k, counted from 0, is in the capture.
+fn kept(t: Pass, k: u64, pdu: &[u8], o: Output) -> Pass {
+    if capture::kept(o.capture, k, pdu) {
+        return t;
+    }
+    tell::capture_cut_short(k);
+    stopped(t)
+}
+
 fn emitted(t: Pass, s: State, e: Events, pdu: &[u8], repair: bool, o: Output) -> Pass {
     let tally = t.tally;
     if written(o, pdu, repair) {
         tell::events(e);
         let more = counted(tally, pdu, repair);
         progress(more.pdus, s.file.progress, s.fixed.size);
-        return with_pdu(t, s, more);
+        return kept(with_pdu(t, s, more), passed(t), pdu, o);
     }
     tell::cut_short(tally.pdus);
     stopped(t)
 }
 
 // ---- what comes
-
-fn heard(out: &mut [u8], pdu: &[u8], a: Answer) -> usize {
-    let p = hex_line(out, b"<- ", pdu);
-    let q = received(out, p, pdu);
-    let r = answer(out, q, a);
-    text(out, r, b"\n")
-}
-
-// With the meaning, what comes is shown too.
-fn shown(o: Output, pdu: &[u8], a: Answer) -> bool {
-    if o.form < 2 {
-        return true;
-    }
-    let mut out = [0u8; 16384];
-    let n = heard(&mut out, pdu, a);
-    io::write_all(o.fd, part_of(&out, 0, n))
-}
 
 fn said(k: u64, a: Answer) {
     match a {
@@ -160,7 +117,8 @@ fn answered(t: Pass, s: State, answers: &[u8], o: Output) -> Pass {
     let k = plus(t.delivered, 1);
     said(k, a);
     if shown(o, pdu, a) {
-        return with_answer(t, next, next_frame(answers, at), k);
+        let more = with_answer(t, next, next_frame(answers, at), k);
+        return kept(more, passed(t), pdu, o);
     }
     tell::cut_short(t.tally.pdus);
     ended(t, next)

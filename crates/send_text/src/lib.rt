@@ -6,4 +6,5 @@ mod nak;
 pub mod pdu;
 pub mod tell;
 pub mod text;
+mod values;
 pub mod words;

@@ -47,16 +47,18 @@ pub fn failed(s: &[u8]) {
 }
 
 // A write failed: how much there is, and the system's reason.
-pub fn cut_short(n: u64) {
+fn ends(s: &[u8], n: u64) {
     let mut out = [0u8; 96];
-    let k = numbers(
-        &mut out,
-        0,
-        b"send: the output ends after # whole PDUs",
-        n,
-        0,
-    );
+    let k = numbers(&mut out, 0, s, n, 0);
     os::fail(part_of(&out, 0, k));
+}
+
+pub fn cut_short(n: u64) {
+    ends(b"send: the output ends after # whole PDUs", n);
+}
+
+pub fn capture_cut_short(n: u64) {
+    ends(b"send: the capture ends after # whole PDUs", n);
 }
 
 // A line with numbers in place of each '#'.
@@ -205,5 +207,7 @@ pub fn usage() {
     line(
         b"    [closure=yes|no] [crc=yes|no] [checksum=modular|crc32c|crc32|null] [segment=1024] [packet=1024]\n",
     );
-    line(b"    [source=NAME] [dest=NAME] [limit=N] [out=FILE] [answers=FILE] [--hex] [--say]\n");
+    line(
+        b"    [source=NAME] [dest=NAME] [limit=N] [out=FILE] [pcap=FILE] [answers=FILE] [--hex] [--say]\n",
+    );
 }
