@@ -14,7 +14,7 @@ use Rattle.rules.specs.States.{idle, toStep}
 use Rattle.rules.specs.Queues.{oldest, served}
 use Rattle.rules.specs.Step.{eofOwed, dueOf, eofFor, nextLength, afterCancelEof, afterMetadata, onward, afterData, afterEof, afterOf, changed}
 use Rattle.rules.specs.Cancel.{mayCancel, userCancelled, cancelSpec, resetSpec, newSpec}
-use Rattle.rules.specs.Good.{At, Good}
+use Rattle.rules.specs.Good.{At}
 use Rattle.rules.specs.Says.{Applies, item-1, item-2, item-3, item-4, item-5, item-6-again, item-6-fault, item-7, item-8, item-9, Declared, cancels, ignores, abandons, once-cancelled}
 use Rattle.rules.specs.Leaves.{NothingKept, Back, IdleCleared, Left, StepLeft, CancelLeaves}
 use Rattle.types.specs.declared.EntityId.{EntityId}
@@ -63,7 +63,7 @@ idle-cleared =
 
 -- ---- a step
 
-module _ (s : State) (file : List ℕ) (g : Good s) where
+module _ (s : State) (file : List ℕ) where
   after-cancel : Left s file CancelEof (afterOf s file CancelEof)
   unfolding afterCancelEof eofFor
   after-cancel = (
@@ -76,13 +76,14 @@ module _ (s : State) (file : List ℕ) (g : Good s) where
   after-repair n =
       let q = s .queue in
       let L = s .fixed .segment in
-      let r = oldest q in
-      let f : Formed q = record { size = g .queue .places; used = g .queue .used } in (
+      let r = oldest q in (
         refl,
         (refl, refl, refl),
         refl,
         refl,
-        rw (pending-first q f n)
+        λ g.
+            let f : Formed q = record { size = g .places; used = g .used } in
+            rw (pending-first q f n)
             (λ l. rw (le-leb (r .end - r .start) L l) refl, λ l. rw (lt-leb (r .end - r .start) L l) (pending-changed q f n (record { start = r .start + L; end = r .end }))),
       )
 
@@ -136,9 +137,9 @@ module _ (s : State) (file : List ℕ) (g : Good s) where
   after-due expired _ u (item-9 f w) = refl
 
 pub step-left : StepLeft
-step-left s file expired room g a =
+step-left s file expired room a =
     let t = step-taken s file expired room a in
-    rw (t .state-is) (after-due s file g expired (dueOf s expired) (t .unchanged) (due-applies s expired))
+    rw (t .state-is) (after-due s file expired (dueOf s expired) (t .unchanged) (due-applies s expired))
 
 -- ---- cancel
 

@@ -27,9 +27,9 @@ use Rattle.rules_pdu.proofs.Round.{round-trip, size-fits}
 use Rattle.rules.specs.States.{idle}
 use Rattle.rules.specs.Queues.{pending, isMetadata, owes, oldest, pop}
 use Rattle.rules.specs.Step.{dueOf, eofFor, repairOf, closing, closureBit, sendingOf, bytesFor, bytesDue, eventsOf, afterOf, changed, performed, stepSpec, stepBytes}
-use Rattle.rules.specs.Good.{AllOwe, GoodName, Under, At, Good}
+use Rattle.rules.specs.Good.{AllOwe, GoodQueue, GoodName, Under, At, Good}
 use Rattle.rules.specs.Exactly.{KnownType}
-use Rattle.rules.specs.Says.{NoneOwed, Declared, cancels, ignores, abandons, once-cancelled, Applies, item-1, item-2, item-3, item-4, item-5, item-6-again, item-6-fault, item-7, item-8, item-9, eofOfSent, itsMetadata, bytesAt, answerTo, named, pduOf, DueSays, IsEof, StepEmits}
+use Rattle.rules.specs.Says.{bytesOf, NoneOwed, Declared, cancels, ignores, abandons, once-cancelled, Applies, item-1, item-2, item-3, item-4, item-5, item-6-again, item-6-fault, item-7, item-8, item-9, eofOfSent, itsMetadata, bytesAt, answerTo, named, pduOf, DueSays, IsEof, StepEmits}
 use Rattle.types.specs.declared.Head.{Head}
 use Rattle.types.specs.declared.SegmentRequest.{SegmentRequest}
 use Rattle.types.specs.declared.State.{State}
@@ -60,15 +60,11 @@ lent-whole s file c e =
 
 -- ---- what can be said is read back
 
-abbrev written : Head → Option Said → List ℕ
-written h none = []
-written h (some m) = encode h m
-
 abbrev Can : Head → Option Said → Type 0
 Can h none = Unit {0}
 Can h (some m) = Fit h × Sayable h m
 
-decode-written : (h : Head) (x : Option Said) → Can h x → decode (written h x) ≡ withHead h x
+decode-written : (h : Head) (x : Option Said) → Can h x → decode (bytesOf h x) ≡ withHead h x
 unfolding decode wellFramed
 decode-written h none c = refl
 decode-written h (some m) c = round-trip h m (c .0) (c .1)
@@ -201,10 +197,11 @@ module _ (s : State) (file : List ℕ) (g : Good s) (y : Bytes file) where
   can-say expired _ (item-8 f e) = can-close (at Closing e)
   can-say expired _ (item-9 f w) = tt
 
-  -- ---- what is written is the PDU named
+-- ---- what is written is the PDU named
 
-  answer-written : (r : SegmentRequest) (rs : List SegmentRequest) → bytesFor s file (repairOf (s .fixed .segment) r) ≡ written h (answerTo s file (r ∷ rs))
-  unfolding h repairOf isMetadata closureBit
+module _ (s : State) (file : List ℕ) where
+  answer-written : (r : SegmentRequest) (rs : List SegmentRequest) → bytesFor s file (repairOf (s .fixed .segment) r) ≡ bytesOf (s .fixed .head) (answerTo s file (r ∷ rs))
+  unfolding repairOf isMetadata closureBit
   answer-written r rs = go (eqb (r .start) 0 and eqb (r .end) 0)
     where
       go : (b : Bool) → bytesFor s file (pick b MetadataPdu (FileData (r .start) (min (s .fixed .segment) (r .end - r .start))))
@@ -212,36 +209,36 @@ module _ (s : State) (file : List ℕ) (g : Good s) (y : Bytes file) where
       go true = refl
       go false = refl
 
-  fault-written : (c : ℕ) (d : Due) → Declared s c d → bytesFor s file (sendingOf s file d) ≡ written h (named s file d)
-  unfolding h eofFor
+  fault-written : (c : ℕ) (d : Due) → Declared s c d → bytesFor s file (sendingOf s file d) ≡ bytesOf (s .fixed .head) (named s file d)
+  unfolding eofFor
   fault-written c _ (cancels e a) = refl
   fault-written c _ (ignores e a) = refl
   fault-written c _ (abandons e a b) = refl
   fault-written c _ (once-cancelled e) = refl
 
-  close-written : bytesFor s file (closing s) ≡ written h (named s file Close)
-  unfolding h closing
+  close-written : bytesFor s file (closing s) ≡ bytesOf (s .fixed .head) (named s file Close)
+  unfolding closing
   close-written = go (s .fixed .head .unacknowledged)
     where
       go : (b : Bool) → bytesFor s file (pick b NoPdu (AckFinished (s .marks .finished .condition)))
-          ≡ written (s .fixed .head) (pick b none (some (ackFinished (s .marks .finished .condition) 1)))
+          ≡ bytesOf (s .fixed .head) (pick b none (some (ackFinished (s .marks .finished .condition) 1)))
       go true = refl
       go false = refl
 
-  named-written : (expired : Bool) (d : Due) → changed s (length file) ≡ false → Applies s expired d → bytesFor s file (sendingOf s file d) ≡ written h (named s file d)
-  unfolding h eofFor closureBit
-  named-written expired _ u (item-1 c o) = refl
-  named-written expired _ u (item-2 n p) =
-      let f : Formed (s .queue) = record { size = g .queue .places; used = g .queue .used } in
+  named-written : (expired : Bool) (d : Due) → GoodQueue (s .file .progress) (s .queue) → changed s (length file) ≡ false → Applies s expired d → bytesFor s file (sendingOf s file d) ≡ bytesOf (s .fixed .head) (named s file d)
+  unfolding eofFor closureBit
+  named-written expired _ g u (item-1 c o) = refl
+  named-written expired _ g u (item-2 n p) =
+      let f : Formed (s .queue) = record { size = g .places; used = g .used } in
       rw (pending-first (s .queue) f p) (answer-written (oldest (s .queue)) (pending (pop (s .queue))))
-  named-written expired _ u (item-3 f e) = refl
-  named-written expired _ u (item-4 f e) = refl
-  named-written expired _ u (item-5 f e) = rw (lent-whole s file u e) refl
-  named-written expired _ u (item-6-again f e x l) = refl
-  named-written expired d u (item-6-fault f e x l k) = fault-written 1 d k
-  named-written expired d u (item-7 f e a x k) = fault-written 10 d k
-  named-written expired _ u (item-8 f e) = close-written
-  named-written expired _ u (item-9 f w) = refl
+  named-written expired _ g u (item-3 f e) = refl
+  named-written expired _ g u (item-4 f e) = refl
+  named-written expired _ g u (item-5 f e) = rw (lent-whole s file u e) refl
+  named-written expired _ g u (item-6-again f e x l) = refl
+  named-written expired d g u (item-6-fault f e x l k) = fault-written 1 d k
+  named-written expired d g u (item-7 f e a x k) = fault-written 10 d k
+  named-written expired _ g u (item-8 f e) = close-written
+  named-written expired _ g u (item-9 f w) = refl
 
 -- ---- an accepted step
 
@@ -279,14 +276,17 @@ pub due-says : DueSays
 unfolding h
 due-says =
     record {
+      written = λ s file expired out g a.
+          let t = step-taken s file expired (length out) a in
+          pdu-is s file expired out a ∙ named-written s file expired (dueOf s expired) g (t .unchanged) (due-applies s expired);
       says = λ s file expired out g y a.
           let t = step-taken s file expired (length out) a in
           let d = due-applies s expired in
-          rw (pdu-is s file expired out a, named-written s file g y expired (dueOf s expired) (t .unchanged) d)
+          rw (pdu-is s file expired out a, named-written s file expired (dueOf s expired) (g .queue) (t .unchanged) d)
           (decode-written (s .fixed .head) (named s file (dueOf s expired)) (can-say s file g y expired (dueOf s expired) d));
       silent = λ s file expired room g y a e.
           let t = step-taken s file expired room a in
-          t .length-is ∙ ap length (named-written s file g y expired (dueOf s expired) (t .unchanged) (due-applies s expired)) ∙ rw e refl;
+          t .length-is ∙ ap length (named-written s file expired (dueOf s expired) (g .queue) (t .unchanged) (due-applies s expired)) ∙ rw e refl;
     }
 
 -- ---- the EOF-sent event

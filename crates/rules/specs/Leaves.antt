@@ -15,7 +15,7 @@ use Rattle.rules.specs.Queues.{pending, owes}
 use Rattle.rules.specs.Deliver.{deliverSpec}
 use Rattle.rules.specs.Step.{dueOf, stepSpec}
 use Rattle.rules.specs.Cancel.{cancelSpec, resetSpec, newSpec}
-use Rattle.rules.specs.Good.{Good}
+use Rattle.rules.specs.Good.{GoodQueue, Good}
 use Rattle.rules.specs.Runs.{those, requests}
 use Rattle.rules.specs.Says.{eofOfSent, named, pduOf}
 use Rattle.types.specs.declared.EntityId.{EntityId}
@@ -98,7 +98,8 @@ Left s file CancelEof t =
     → AwaitsAck s t (eofOfSent s file (s .marks .condition))
     × (t .marks .cancelled ≡ s .marks .cancelled) × (t .marks .condition ≡ s .marks .condition) × (t .queue ≡ s .queue))
 Left s file Repair t =
-    (t .step ≡ s .step) × Same s t × (t .file ≡ s .file) × (t .marks ≡ s .marks) × Served (s .fixed .segment) (pending (s .queue)) (pending (t .queue))
+    (t .step ≡ s .step) × Same s t × (t .file ≡ s .file) × (t .marks ≡ s .marks)
+    × (GoodQueue (s .file .progress) (s .queue) → Served (s .fixed .segment) (pending (s .queue)) (pending (t .queue)))
 Left s file Metadata t =
     (s .fixed .size ≡ 0 → t .step ≡ SendingEof)
     × (0 < s .fixed .size → t .step ≡ SendingFileData)
@@ -127,10 +128,10 @@ Left s file (FaultAbandon c) t = Back s t
 Left s file Close t = Back s t
 Left s file Nothing t = t ≡ s
 
--- PROMISE step-leaves: an accepted step in a good state leaves what document 01 says of its case, and nothing else changes.
+-- PROMISE step-leaves: an accepted step leaves what document 01 says of its case, and nothing else changes.
 abbrev pub StepLeft : Type 0
 StepLeft =
-    (s : State) (file : List ℕ) (expired : Bool) (room : ℕ) → Good s → stepSpec s file expired room .answer ≡ Accepted
+    (s : State) (file : List ℕ) (expired : Bool) (room : ℕ) → stepSpec s file expired room .answer ≡ Accepted
     → Left s file (dueOf s expired) (stepSpec s file expired room .state)
 
 -- ---- cancel

@@ -12,11 +12,12 @@ use lib.ListN.{length, getD, take, drop}
 use Rattle.basis.specs.Pick.{pick, _and_}
 use Rattle.basis.specs.Bytes.{Bytes}
 use Rattle.rules_leaves.specs.Checksum.{sumOf}
-use Rattle.rules_pdu.specs.Layout.{Said, metadata, fileData, eof, ackFinished}
+use Rattle.rules_pdu.specs.Layout.{Said, metadata, fileData, eof, ackFinished, encode}
 use Rattle.rules_pdu.specs.Decoding.{withHead, decode}
 use Rattle.rules.specs.Queues.{pending}
 use Rattle.rules.specs.Step.{dueOf, eventsOf, stepSpec, stepBytes}
-use Rattle.rules.specs.Good.{Good}
+use Rattle.rules.specs.Good.{GoodQueue, Good}
+use Rattle.types.specs.declared.Head.{Head}
 use Rattle.types.specs.declared.SegmentRequest.{SegmentRequest}
 use Rattle.types.specs.declared.State.{State}
 use Rattle.types.specs.declared.TransactionStep.the-variants.{Idle, SendingMetadata, SendingFileData, SendingEof, WaitingForEofAck, WaitingForFinished, Closing}
@@ -101,6 +102,11 @@ named s file (FaultAbandon c) = none
 named s file Close = pick (s .fixed .head .unacknowledged) none (some (ackFinished (s .marks .finished .condition) 1))
 named s file Nothing = none
 
+-- a PDU's bytes by the layouts, or none
+abbrev pub bytesOf : Head → Option Said → List ℕ
+bytesOf h none = []
+bytesOf h (some said) = encode h said
+
 -- the bytes that an accepted step emits
 abbrev pub pduOf : State → List ℕ → Bool → List ℕ → List ℕ
 pduOf s file expired out = take (stepSpec s file expired (length out) .length) (stepBytes s file expired out)
@@ -108,6 +114,10 @@ pduOf s file expired out = take (stepSpec s file expired (length out) .length) (
 -- PROMISE due-says: in every reachable state, also after the first EOF, what an accepted step emits is read by the other side as the PDU that document 01
 -- names, with the transaction's header; where it names none, no byte leaves.
 pub record DueSays : Type 0 where
+  -- in any state with a queue in order: its bytes are the layout's
+  pub written : (s : State) (file : List ℕ) (expired : Bool) (out : List ℕ) → GoodQueue (s .file .progress) (s .queue)
+      → stepSpec s file expired (length out) .answer ≡ Accepted
+      → pduOf s file expired out ≡ bytesOf (s .fixed .head) (named s file (dueOf s expired))
   pub says : (s : State) (file : List ℕ) (expired : Bool) (out : List ℕ) → Good s → Bytes file → stepSpec s file expired (length out) .answer ≡ Accepted
       → decode (pduOf s file expired out) ≡ withHead (s .fixed .head) (named s file (dueOf s expired))
   pub silent : (s : State) (file : List ℕ) (expired : Bool) (room : ℕ) → Good s → Bytes file → stepSpec s file expired room .answer ≡ Accepted
