@@ -115,7 +115,7 @@ def some_entry(rng, to, large):
 
 # ---- passes through `drive`
 
-class Session:
+class Batch:
     """Some passes on one handler, over one file."""
 
     def __init__(self, rng, size):
@@ -194,9 +194,9 @@ class Session:
         return pairs
 
 
-def session(rng, most):
+def batch(rng, most):
     """At most so many passes."""
-    s = Session(rng, rng.choice([64, 150, 150, 6000]))
+    s = Batch(rng, rng.choice([64, 150, 150, 6000]))
     while s.passes < most and not s.full():
         s.one_pass()
     return s
