@@ -225,11 +225,11 @@ module _ (s : State) (file : List ℕ) where
       go true = refl
       go false = refl
 
-  named-written : (expired : Bool) (d : Due) → GoodQueue (s .file .progress) (s .queue) → changed s (length file) ≡ false → Applies s expired d → bytesFor s file (sendingOf s file d) ≡ bytesOf (s .fixed .head) (named s file d)
+  named-written : (expired : Bool) (d : Due) → (d ≡ Repair → GoodQueue (s .file .progress) (s .queue)) → changed s (length file) ≡ false → Applies s expired d → bytesFor s file (sendingOf s file d) ≡ bytesOf (s .fixed .head) (named s file d)
   unfolding eofFor closureBit
   named-written expired _ g u (item-1 c o) = refl
   named-written expired _ g u (item-2 n p) =
-      let f : Formed (s .queue) = record { size = g .places; used = g .used } in
+      let f : Formed (s .queue) = record { size = g refl .places; used = g refl .used } in
       rw (pending-first (s .queue) f p) (answer-written (oldest (s .queue)) (pending (pop (s .queue))))
   named-written expired _ g u (item-3 f e) = refl
   named-written expired _ g u (item-4 f e) = refl
@@ -282,11 +282,11 @@ due-says =
       says = λ s file expired out g y a.
           let t = step-taken s file expired (length out) a in
           let d = due-applies s expired in
-          rw (pdu-is s file expired out a, named-written s file expired (dueOf s expired) (g .queue) (t .unchanged) d)
+          rw (pdu-is s file expired out a, named-written s file expired (dueOf s expired) (λ _. g .queue) (t .unchanged) d)
           (decode-written (s .fixed .head) (named s file (dueOf s expired)) (can-say s file g y expired (dueOf s expired) d));
       silent = λ s file expired room g y a e.
           let t = step-taken s file expired room a in
-          t .length-is ∙ ap length (named-written s file expired (dueOf s expired) (g .queue) (t .unchanged) (due-applies s expired)) ∙ rw e refl;
+          t .length-is ∙ ap length (named-written s file expired (dueOf s expired) (λ _. g .queue) (t .unchanged) (due-applies s expired)) ∙ rw e refl;
     }
 
 -- ---- the EOF-sent event
@@ -322,6 +322,7 @@ pub step-emits : StepEmits
 step-emits =
     record {
       buffer = λ s file expired out a. behind-it s file expired out a;
+      state = λ s file expired room a. step-taken s file expired room a .state-is;
       events = λ s file expired room a. step-taken s file expired room a .events-are;
       eof-sent = λ s file expired room a. rw (step-taken s file expired room a .events-are) (eof-tied s file (dueOf s expired));
     }

@@ -15,7 +15,7 @@ use Rattle.rules_leaves.specs.Checksum.{sumOf}
 use Rattle.rules_pdu.specs.Layout.{Said, metadata, fileData, eof, ackFinished, encode}
 use Rattle.rules_pdu.specs.Decoding.{withHead, decode}
 use Rattle.rules.specs.Queues.{pending}
-use Rattle.rules.specs.Step.{dueOf, eventsOf, stepSpec, stepBytes}
+use Rattle.rules.specs.Step.{dueOf, afterOf, eventsOf, stepSpec, stepBytes}
 use Rattle.rules.specs.Good.{GoodQueue, Good}
 use Rattle.types.specs.declared.Head.{Head}
 use Rattle.types.specs.declared.SegmentRequest.{SegmentRequest}
@@ -114,8 +114,8 @@ pduOf s file expired out = take (stepSpec s file expired (length out) .length) (
 -- PROMISE due-says: in every reachable state, also after the first EOF, what an accepted step emits is read by the other side as the PDU that document 01
 -- names, with the transaction's header; where it names none, no byte leaves.
 pub record DueSays : Type 0 where
-  -- in any state with a queue in order: its bytes are the layout's
-  pub written : (s : State) (file : List ℕ) (expired : Bool) (out : List ℕ) → GoodQueue (s .file .progress) (s .queue)
+  -- in any state: its bytes are the layout's; for a repair, if the queue is in order
+  pub written : (s : State) (file : List ℕ) (expired : Bool) (out : List ℕ) → (dueOf s expired ≡ Repair → GoodQueue (s .file .progress) (s .queue))
       → stepSpec s file expired (length out) .answer ≡ Accepted
       → pduOf s file expired out ≡ bytesOf (s .fixed .head) (named s file (dueOf s expired))
   pub says : (s : State) (file : List ℕ) (expired : Bool) (out : List ℕ) → Good s → Bytes file → stepSpec s file expired (length out) .answer ≡ Accepted
@@ -135,6 +135,9 @@ pub record StepEmits : Type 0 where
   -- "After an accepted step the out buffer holds the PDU in front and its old bytes behind."
   pub buffer : (s : State) (file : List ℕ) (expired : Bool) (out : List ℕ) → stepSpec s file expired (length out) .answer ≡ Accepted
       → stepBytes s file expired out ≡ pduOf s file expired out ++ drop (stepSpec s file expired (length out) .length) out
+  -- the state is the one after the case that is due (step-leaves says which, field by field)
+  pub state : (s : State) (file : List ℕ) (expired : Bool) (room : ℕ) → stepSpec s file expired room .answer ≡ Accepted
+      → stepSpec s file expired room .state ≡ afterOf s file (dueOf s expired)
   -- the events are those of the case that is due (event-cases)
   pub events : (s : State) (file : List ℕ) (expired : Bool) (room : ℕ) → stepSpec s file expired room .answer ≡ Accepted
       → stepSpec s file expired room .events ≡ eventsOf s (dueOf s expired)
