@@ -9,7 +9,7 @@ use native.Mathlib.Omega.{arith}
 use lib.ListN.{length}
 use Rattle.rules_pdu.specs.Decoding.{fileDataOf}
 use Rattle.rules.specs.Put.{putSpec}
-use Rattle.rules.specs.Runs.{Call, Shown, went, after, shows, trace, Lends, labelled, BeforeEof}
+use Rattle.rules.specs.Runs.{Single, Shown, went, after, shows, labelled, BeforeEof}
 use Rattle.rules.specs.Demand.{Transfer}
 use Rattle.rules.specs.Companions.{dataLength, BeginsAt, LiesBelow, Apart, ToldApart}
 use Rattle.types.specs.declared.State.{State}
@@ -20,6 +20,7 @@ use Rattle.rules.proofs.Emits.{bytesOf}
 use Rattle.rules.proofs.Hold.{Inv, none-owed, Small, Onward, Does, DoesFrom, sent-le, Moves, call-moves}
 use Rattle.rules.proofs.Stream.{Carries, taken-length, data-of, metadata-of, last-eof}
 use Rattle.rules.proofs.Begun.{put-passed, carries, begun, begun-step}
+use Rattle.rules.proofs.Singly.{run, LendsAll, singly, as-run, as-lends}
 use Rattle.rules.proofs.Demand.{labelledFrom, labels-turned, labels-took, labels-first, labels-repair, at-start}
 
 module _ (w : Transfer) (c : Carries w) where
@@ -41,28 +42,28 @@ module _ (w : Transfer) (c : Carries w) where
 abbrev ApartFrom : Transfer → State → List Shown → Type 0
 ApartFrom w s es = Apart (s .file .progress) (labelledFrom w s es)
 
-module _ (w : Transfer) (c : Carries w) (cs : List Call) (ih : (t : State) → Inv w t → BeforeEof (trace cs t) → ApartFrom w t (trace cs t)) where
-  on-does : (s : State) → Inv w s → (d : Sending) (t : State) → DoesFrom w s d t → BeforeEof (went (some (bytesOf w d)) ∷ trace cs t)
-      → ApartFrom w s (went (some (bytesOf w d)) ∷ trace cs t)
+module _ (w : Transfer) (c : Carries w) (cs : List Single) (ih : (t : State) → Inv w t → BeforeEof (run cs t) → ApartFrom w t (run cs t)) where
+  on-does : (s : State) → Inv w s → (d : Sending) (t : State) → DoesFrom w s d t → BeforeEof (went (some (bytesOf w d)) ∷ run cs t)
+      → ApartFrom w s (went (some (bytesOf w d)) ∷ run cs t)
   unfolding flatMap
   on-does s i x y (Does.serves-one d t q p z m v j) f =
-      rw (labels-repair w s t (trace cs t) d (bytesOf w d) q)
-      (below w c (s .file .progress) d (sent-le w s i) v, subst (λ (n : ℕ). Apart n (labelledFrom w t (trace cs t))) m (ih t j (f .0 .1, f .1 .1)))
+      rw (labels-repair w s t (run cs t) d (bytesOf w d) q)
+      (below w c (s .file .progress) d (sent-le w s i) v, subst (λ (n : ℕ). Apart n (labelledFrom w t (run cs t))) m (ih t j (f .0 .1, f .1 .1)))
   on-does s i x y (Does.advances d t q u p z m j) f =
       let g = begins w c (s .file .progress) (t .file .progress) d (sent-le w t j) z m in
-      rw (labels-first w s t (trace cs t) (bytesOf w d) (none-owed w s q) (none-owed w t u)) (g .0, rw (g .1) (ih t j (f .0 .1, f .1 .1)))
+      rw (labels-first w s t (run cs t) (bytesOf w d) (none-owed w s q) (none-owed w t u)) (g .0, rw (g .1) (ih t j (f .0 .1, f .1 .1)))
   on-does s i x y (Does.closes t q p) f = absurd (true≢false (sym (last-eof w (c .fit)) ∙ f .1 .0))
 
-  on-call : (s : State) (e : Shown) (t : State) → Inv w s → Moves w s e t → BeforeEof (e ∷ trace cs t) → ApartFrom w s (e ∷ trace cs t)
+  on-call : (s : State) (e : Shown) (t : State) → Inv w s → Moves w s e t → BeforeEof (e ∷ run cs t) → ApartFrom w s (e ∷ run cs t)
   unfolding flatMap
-  on-call s x y i Moves.refuses f = rw (labels-turned w s s (trace cs s)) (ih s i (f .0 .1, f .1))
+  on-call s x y i Moves.refuses f = rw (labels-turned w s s (run cs s)) (ih s i (f .0 .1, f .1))
   on-call s x y i (Moves.takes bytes t q p v m j) f =
-      rw (labels-took w s t (trace cs t) bytes q) (subst (λ (n : ℕ). Apart n (labelledFrom w t (trace cs t))) m (ih t j (f .0 .1, f .1)))
+      rw (labels-took w s t (run cs t) bytes q) (subst (λ (n : ℕ). Apart n (labelledFrom w t (run cs t))) m (ih t j (f .0 .1, f .1)))
   on-call s x y i (Moves.emits d t z) f = on-does s i d t z f
   on-call s x y i (Moves.ends t) f = absurd (f .0 .0 refl)
 
-apart : (w : Transfer) → Carries w → (cs : List Call) (s : State) → Inv w s → Lends (w .file) cs → BeforeEof (trace cs s) → ApartFrom w s (trace cs s)
-unfolding trace labelled flatMap
+apart : (w : Transfer) → Carries w → (cs : List Single) (s : State) → Inv w s → LendsAll (w .file) cs → BeforeEof (run cs s) → ApartFrom w s (run cs s)
+unfolding run labelled flatMap
 apart w c [] s i l f = tt
 apart w c (x ∷ cs) s i l f = on-call w c cs (λ t j b. apart w c cs t j (l .1) b) s (shows x s) (after x s) i (call-moves w s i x (l .0)) f
 
@@ -72,4 +73,5 @@ told-apart h c q source destination file b z a cs l f =
     let s = putSpec h c q source destination (length file) .state in
     let i = begun h c q source destination file p in
     let e = at-start _ s i (begun-step h c q source destination file p) in
-    rw (e .1, none-owed _ s (e .0)) at (apart _ (carries h c q source destination file p b z) cs s i l f)
+    let r = as-run cs s in
+    rw r (rw (e .1, none-owed _ s (e .0)) at (apart _ (carries h c q source destination file p b z) (singly cs s) s i (as-lends file cs s l) (rw r at f)))

@@ -3,7 +3,7 @@
 -- Assumes nothing.
 use mathlib.Core.Path.{_≡_, refl, sym, ap, _∙_}
 use mathlib.Core.Bool.{false, true≢false}
-use mathlib.Core.List.{List, [], _∷_, _++_, map, flatMap, map-append, append-nil, append-assoc, append-cancel-right}
+use mathlib.Core.List.{List, [], _∷_, _++_, map, flatMap, map-append, append-nil, append-assoc, append-cancel-right, cons≢nil}
 use mathlib.Core.Option.{Option, some}
 use Prim.Native.Nat.{ℕ, suc, _+_, _-_, _<_}
 use native.Mathlib.Nat.{sub-zero}
@@ -15,8 +15,8 @@ use Rattle.rules_pdu.specs.Decoding.{decode}
 use Rattle.rules_pdu.specs.PduLaws.{Fit}
 use Rattle.rules.specs.Put.{putSpec}
 use Rattle.rules.specs.Tiles.{tiles, answers, weights}
-use Rattle.rules.specs.Runs.{Call, Shown, turned, took, went, after, shows, trace, behind, Lends, requests, stepCount, requested, repairsOwed, R, Labelled, first, repair, labelled, ofFirst, ofRepair, firstPass, repairs, NoPut, BeforeEof}
-use Rattle.rules.specs.Demand.{Transfer, meant, planned, lastly, isEof, eofStep, SoFar, AtEof, AtStep, ThirdDemand}
+use Rattle.rules.specs.Runs.{Single, Call, Shown, turned, took, went, after, shows, trace, behind, LendsIn, Lends, requests, stepCount, requested, repairsOwed, R, Labelled, first, repair, labelled, ofFirst, ofRepair, firstPass, repairs, NoPut, BeforeEof}
+use Rattle.rules.specs.Demand.{Transfer, meant, planned, lastly, isEof, eofStep, SoFar, AtEof, AtStep, ThirdDemand, Front}
 use Rattle.types.specs.declared.SegmentRequest.{SegmentRequest}
 use Rattle.types.specs.declared.State.{State}
 use Rattle.types.specs.declared.TransactionStep.{TransactionStep}
@@ -28,6 +28,7 @@ use Rattle.rules.proofs.Outcomes.{differ}
 use Rattle.rules.proofs.Emits.{bytesOf}
 use Rattle.rules.proofs.Hold.{plan, At, Inv, planOf, owedBy, none-owed, Does, DoesFrom, Moves, call-moves}
 use Rattle.rules.proofs.Stream.{Carries, last-read, all-read, small-no-eof, last-eof, planned-file, planned-within}
+use Rattle.rules.proofs.Singly.{run, end, LendsAll, singly, as-run, as-end, as-lends, Parted, parted, all-parts}
 use Rattle.rules.proofs.Begun.{put-passed, carries, begun, begun-step}
 
 -- ---- the labels from the state s on, by what the first call shows
@@ -70,19 +71,19 @@ pub record Kept (w : Transfer) (s : State) (es : List Shown) (t : State) : Type 
       stepCount es + length (owedBy w t) + length (planOf w t)
       ≡ length (owedBy w s) + length (planOf w s) + R (w .segment) es
 
-module _ (w : Transfer) (g : Fit (w .head)) (cs : List Call) (ih : (t : State) → Inv w t → BeforeEof (trace cs t) → Kept w t (trace cs t) (behind cs t)) where
+module _ (w : Transfer) (g : Fit (w .head)) (cs : List Single) (ih : (t : State) → Inv w t → BeforeEof (run cs t) → Kept w t (run cs t) (end cs t)) where
   on-does :
       (s : State) (d : Sending) (t : State)
       → DoesFrom w s d t
-      → BeforeEof (went (some (bytesOf w d)) ∷ trace cs t)
-      → Kept w s (went (some (bytesOf w d)) ∷ trace cs t) (behind cs t)
+      → BeforeEof (went (some (bytesOf w d)) ∷ run cs t)
+      → Kept w s (went (some (bytesOf w d)) ∷ run cs t) (end cs t)
   unfolding flatMap
   on-does s x y (Does.serves-one d t q p z m v j) f =
       let k = ih t j (f .0 .1, f .1 .1) in
       let kc = k .counted in
       let lq = ap length q in
       let lp = ap length p in
-      let r = labels-repair w s t (trace cs t) d (bytesOf w d) q in
+      let r = labels-repair w s t (run cs t) d (bytesOf w d) q in
       record {
         inv = k .inv;
         no-put = (λ e. differ cc, k .no-put);
@@ -99,7 +100,7 @@ module _ (w : Transfer) (g : Fit (w .head)) (cs : List Call) (ih : (t : State) �
       let la = ap length qa in
       let lb = ap length qb in
       let lp = ap length p in
-      let r = labels-first w s t (trace cs t) (bytesOf w d) qa qb in
+      let r = labels-first w s t (run cs t) (bytesOf w d) qa qb in
       record {
         inv = k .inv;
         no-put = (λ e. differ cc, k .no-put);
@@ -114,17 +115,17 @@ module _ (w : Transfer) (g : Fit (w .head)) (cs : List Call) (ih : (t : State) �
       (s : State) (e : Shown) (t : State)
       → Inv w s
       → Moves w s e t
-      → BeforeEof (e ∷ trace cs t)
-      → Kept w s (e ∷ trace cs t) (behind cs t)
+      → BeforeEof (e ∷ run cs t)
+      → Kept w s (e ∷ run cs t) (end cs t)
   unfolding flatMap
   on-call s x y i Moves.refuses f =
       let k = ih s i (f .0 .1, f .1) in
-      let r = labels-turned w s s (trace cs s) in
+      let r = labels-turned w s s (run cs s) in
       record { inv = k .inv; no-put = (λ e. differ cc, k .no-put); firstly = rw r (k .firstly); repaired = rw r (k .repaired); within = k .within; counted = k .counted }
   on-call s x y i (Moves.takes bytes t q p v m j) f =
       let L = w .segment in
       let rs = requests bytes in
-      let es = requested (trace cs t) in
+      let es = requested (run cs t) in
       let k = ih t j (f .0 .1, f .1) in
       let kc = k .counted in
       let lq = ap length q in
@@ -132,7 +133,7 @@ module _ (w : Transfer) (g : Fit (w .head)) (cs : List Call) (ih : (t : State) �
       let ln = length-answers L rs in
       let lp = ap length p in
       let lw = weights-append L rs es in
-      let r = labels-took w s t (trace cs t) bytes q in
+      let r = labels-took w s t (run cs t) bytes q in
       record {
         inv = k .inv;
         no-put = (λ e. differ cc, k .no-put);
@@ -148,16 +149,25 @@ module _ (w : Transfer) (g : Fit (w .head)) (cs : List Call) (ih : (t : State) �
 
 -- over any run with no EOF yet
 pub kept :
+    (w : Transfer) → Fit (w .head) → (cs : List Single) (s : State)
+    → Inv w s
+    → LendsAll (w .file) cs
+    → BeforeEof (run cs s)
+    → Kept w s (run cs s) (end cs s)
+unfolding run end flatMap labelled answers weights
+kept w g [] s i l f =
+    record { inv = i; no-put = tt; firstly = refl; repaired = sym (append-nil (map (bytesOf w) (owedBy w s))); within = tt; counted = omega arith }
+kept w g (x ∷ cs) s i l f =
+    on-call w g cs (λ t j b. kept w g cs t j (l .1) b) s (shows x s) (after x s) i (call-moves w s i x (l .0)) f
+
+-- with bursts among the calls
+pub kept-by :
     (w : Transfer) → Fit (w .head) → (cs : List Call) (s : State)
     → Inv w s
     → Lends (w .file) cs
     → BeforeEof (trace cs s)
     → Kept w s (trace cs s) (behind cs s)
-unfolding trace behind flatMap labelled answers weights
-kept w g [] s i l f =
-    record { inv = i; no-put = tt; firstly = refl; repaired = sym (append-nil (map (bytesOf w) (owedBy w s))); within = tt; counted = omega arith }
-kept w g (x ∷ cs) s i l f =
-    on-call w g cs (λ t j b. kept w g cs t j (l .1) b) s (shows x s) (after x s) i (call-moves w s i x (l .0)) f
+kept-by w g cs s i l f = rw (as-run cs s, as-end cs s) (kept w g (singly cs s) s i (as-lends (w .file) cs s l) (rw (as-run cs s) at f))
 
 -- ---- what is left to send
 
@@ -305,13 +315,41 @@ module _ (w : Transfer) (c : Carries w) (s : State) (i : Inv w s) (a : s .step �
 
 -- ---- the demand
 
+-- the call that shows what is shown next
+next-shown : (file : List ℕ) (ps : List Single) (t : State) (e : Shown) (rest : List Shown) → run ps t ≡ e ∷ rest → LendsAll file ps
+    → (p : Single) × LendsIn file p × (shows p t ≡ e)
+unfolding run
+next-shown file [] t e rest h l = absurd (cons≢nil (sym h))
+next-shown file (p ∷ ps) t e rest h l = (p, l .0, cc)
+
+-- at a moment of a run of single calls
+demanded : (w : Transfer) → Carries w → (s : State) → Inv w s → s .step ≡ SendingMetadata → (ps : List Single) → LendsAll (w .file) ps
+    → (es : List Shown) → Front es (run ps s) → BeforeEof es
+    → SoFar w es × ((d : Option (List ℕ)) → Front (es ++ went d ∷ []) (run ps s) → AtStep w es d)
+demanded w c s i a ps l es x f = (so-far w c s i a es (end (u .front) s) (kept-at u), λ d z. on-moment d z)
+  where
+    u : Parted ps s es (x .0)
+    u = parted ps s es (x .0) (x .1)
+
+    kept-at : {rest : List Shown} (k : Parted ps s es rest) → Kept w s es (end (k .front) s)
+    kept-at k =
+        let m = rw (k .whole) at l in
+        rw (k .shown) at (kept w (c .fit) (k .front) s i (all-parts (LendsIn (w .file)) (k .front) (k .back) m .0) (rw (← (k .shown)) at f))
+
+    on-moment : (d : Option (List ℕ)) → Front (es ++ went d ∷ []) (run ps s) → AtStep w es d
+    on-moment d z =
+        let k = parted ps s es (went d ∷ z .0) (sym (append-assoc es (went d ∷ []) (z .0)) ∙ z .1) in
+        let m = rw (k .whole) at l in
+        let n = next-shown (w .file) (k .back) (end (k .front) s) (went d) (z .0) (k .later) (all-parts (LendsIn (w .file)) (k .front) (k .back) m .1) in
+        let t = end (k .front) s in
+        let y = kept-at k in
+        on-next w c s i a es t y (shows (n .0) t) (after (n .0) t) d (call-moves w t (y .inv) (n .0) (n .1)) (n .2)
+
 pub third-demand : ThirdDemand
-third-demand h c q source destination file b l a cs lends f =
+third-demand h c q source destination file b l a cs lends es x f =
     let p = put-passed h c q source destination (length file) a in
     let s = putSpec h c q source destination (length file) .state in
-    let i = begun h c q source destination file p in
     let y = carries h c q source destination file p b l in
-    let e = begun-step h c q source destination file p in
-    let t = behind cs s in
-    let k = kept _ (y .fit) cs s i lends f in
-    (so-far _ y s i e (trace cs s) t k, λ next d m z. on-next _ y s i e (trace cs s) t k (shows next t) (after next t) d (call-moves _ t (k .inv) next m) z)
+    let r = as-run cs s in
+    let k = demanded _ y s (begun h c q source destination file p) (begun-step h c q source destination file p) (singly cs s) (as-lends file cs s lends) es (rw r at x) f in
+    (k .0, λ d z. k .1 d (rw r at z))

@@ -18,8 +18,8 @@ use Rattle.rules.specs.Step.{actionFor, faultDue, ackExpired, checkExpir
 use Rattle.rules.specs.Put.{putAnswer, putState, putSpec}
 use Rattle.rules.specs.Refusals.{byAnswer}
 use Rattle.rules.specs.Cancel.{canCancel, mayCancel, userCancelled, cancelSpec, resetSpec, newSpec}
-use Rattle.rules.specs.Runs.{Call, put, deliver, step, cancel, reset, behind}
-use Rattle.rules.specs.Good.{GoodQueue, GoodMarks, Under, AllSent, At, Good, GoodKept, Proper, AlwaysGood, AnomalyNeverMoves}
+use Rattle.rules.specs.Runs.{put, deliver, step, cancel, reset, Call, one, burst, afterCall, behind}
+use Rattle.rules.specs.Good.{GoodQueue, GoodMarks, Under, AllSent, At, Good, GoodKept, ProperCall, Proper, AlwaysGood, AnomalyNeverMoves}
 use Rattle.types.specs.declared.EntityId.{EntityId}
 use Rattle.types.specs.declared.TransactionSeqNum.{TransactionSeqNum}
 use Rattle.types.specs.declared.FileParams.{FileParams}
@@ -34,6 +34,7 @@ use Rattle.types.specs.declared.Answer.the-variants.{Accepted, Refused}
 use Rattle.types.specs.declared.Stepped.{Stepped}
 use Rattle.types.specs.declared.Cancelled.{Cancelled}
 use Rattle.rules_leaves.proofs.Sums.{sum-lt}
+use Rattle.rules.proofs.Singly.{burst-keeps}
 use Rattle.rules.proofs.GoodQueue.{good-empty, good-on, served-good}
 use Rattle.rules.proofs.GoodMarks.{good-noMarks, good-counted, good-settled, good-marked}
 use Rattle.rules.proofs.GoodPut.{put-good}
@@ -321,18 +322,23 @@ good-kept =
           kept-or-good s (putState s c q source destination S) (putAnswer s c q source destination S) g (put-good s c q source destination S h);
       deliver = λ s bytes h g. deliver-good s g bytes h;
       step = λ s file expired room h g. step-good s file g h expired room;
+      burst = λ s file expired count room h g. burst-keeps Good file (λ t x n k. step-good t file k h x n) s expired count room g;
       cancel = λ s source number g. cancel-good s source number g;
       reset = λ s g. good-idle (s .number);
     }
 
+call-good : (c : Call) (s : State) → ProperCall c → Good s → Good (afterCall c s)
+call-good (one (put c q source destination S)) s p g = good-kept .put s c q source destination S p g
+call-good (one (deliver bytes)) s p g = good-kept .deliver s bytes p g
+call-good (one (step lent expired out)) s p g = good-kept .step s lent expired (length out) p g
+call-good (one (cancel source number)) s p g = good-kept .cancel s source number g
+call-good (one reset) s p g = good-kept .reset s g
+call-good (burst lent expired count out) s p g = good-kept .burst s lent expired count (length out) p g
+
 behind-good : (cs : List Call) (s : State) → Proper cs → Good s → Good (behind cs s)
 unfolding behind
 behind-good [] s p g = g
-behind-good (put c q source destination S ∷ cs) s p g = behind-good cs _ (p .1) (good-kept .put s c q source destination S (p .0) g)
-behind-good (deliver bytes ∷ cs) s p g = behind-good cs _ (p .1) (good-kept .deliver s bytes (p .0) g)
-behind-good (step lent expired out ∷ cs) s p g = behind-good cs _ (p .1) (good-kept .step s lent expired (length out) (p .0) g)
-behind-good (cancel source number ∷ cs) s p g = behind-good cs _ (p .1) (good-kept .cancel s source number g)
-behind-good (reset ∷ cs) s p g = behind-good cs _ (p .1) (good-kept .reset s g)
+behind-good (c ∷ cs) s p g = behind-good cs (afterCall c s) (p .1) (call-good c s (p .0) g)
 
 pub always-good : AlwaysGood
 always-good n cs p = behind-good cs (newSpec n) p (good-kept .new n)

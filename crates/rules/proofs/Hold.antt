@@ -19,7 +19,7 @@ use Rattle.rules.specs.Queues.{pending, pushAll, oldest, pop, piece, ser
 use Rattle.rules.specs.Deliver.{isRefuse, verdictOf, byVerdict, asked, requestsIn, deliverSpec}
 use Rattle.rules.specs.Step.{eofOwed, dueAt, dueOf, eofFor, repairOf, nextLength, sendingOf, afterMetadata, afterData, onward, afterOf}
 use Rattle.rules.specs.Tiles.{tiles, answers}
-use Rattle.rules.specs.Runs.{Call, put, deliver, step, cancel, reset, Shown, turned, took, went, ended, after, unless, shows, LendsIn, requests}
+use Rattle.rules.specs.Runs.{Single, put, deliver, step, cancel, reset, Shown, turned, took, went, ended, after, unless, shows, LendsIn, requests}
 use Rattle.rules.specs.Demand.{Transfer, lastly}
 use Rattle.types.specs.declared.SegmentRequest.{SegmentRequest}
 use Rattle.types.specs.declared.Frame.{Frame}
@@ -388,7 +388,7 @@ module _ (w : Transfer) (s : State) (i : Inv w s) where
   -- ---- all calls
 
   -- a handler that is busy refuses every put
-  pub call-moves : (c : Call) → LendsIn (w .file) c → Moves w s (shows c s) (after c s)
+  pub call-moves : (c : Single) → LendsIn (w .file) c → Moves w s (shows c s) (after c s)
   call-moves (put c q a b S) l = put-by s (Moves w s) refuses (λ t e. absurd (true≢false (sym e ∙ not-idle w s i))) c q a b S
   call-moves (deliver bytes) l = deliver-moves bytes
   call-moves (step lent expired out) l = step-moves w s i lent expired out l

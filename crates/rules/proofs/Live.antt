@@ -7,10 +7,10 @@ use mathlib.Core.List.{List, [], _∷_, _++_, map, flatMap, cons≢nil, map-appe
 use mathlib.Core.Option.{Option}
 use Prim.Native.Nat.{ℕ, _+_, _-_, _≤_, _<_}
 use native.Mathlib.Omega.{arith}
-use lib.Dec.{ltb}
+use lib.Dec.{eqb, ltb}
 use lib.ListN.{length, take, drop, length-take, length-append}
 use borrow.Author.Tests.{le-ltb, eq-eqb}
-use Rattle.basis.specs.Pick.{_and_, not}
+use Rattle.basis.specs.Pick.{pick, _and_, not}
 use Rattle.basis.specs.Bytes.{part}
 use Rattle.rules_pdu.specs.Numbers.{H, F, C}
 use Rattle.rules_pdu.specs.Layout.{encodeHeard, nak, pduLength, Pdu}
@@ -22,6 +22,7 @@ use Rattle.rules.specs.Deliver.{requestsIn}
 use Rattle.rules.specs.Put.{entryOf, putSpec, putAnswer, putState}
 use Rattle.rules.specs.Step.{dueOf, sendingOf, bytesFor, changed, performed, stepSpec, afterOf, stepBytes}
 use Rattle.rules.specs.Cancel.{newSpec}
+use Rattle.rules.specs.Burst.{burstAnswer, burstSpec}
 use Rattle.rules.specs.Runs.{Call, step, Shown, turned, went, unless, pduIn, shows, trace, behind, LendsIn, requestsOfBody, requestsOfFrame, requests, emitted, firstPass}
 use Rattle.rules.specs.Demand.{Transfer, planned, lastly, transferOf, meant}
 use Rattle.rules.specs.Companions.{carried, Live, ProgressMade, SecondPut, NakAsks, PlainSteps, PlainRun}
@@ -46,7 +47,7 @@ use Rattle.rules.proofs.Emits.{bytesOf, same-bytes, StepShows, step-sho
 use Rattle.rules.proofs.Hold.{Inv, Small, Does, due-does, planOf, none-owed, does-some, DoesFrom, not-idle}
 use Rattle.rules.proofs.Stream.{Carries, carried-sizes, planned-within, all-read, last-read}
 use Rattle.rules.proofs.Begun.{put-passed, head-fit, names, room, range, carries, begun, begun-step, Passed}
-use Rattle.rules.proofs.Demand.{Kept, kept, ending, first-cut, plan-pos, at-start, plan-is}
+use Rattle.rules.proofs.Demand.{Kept, kept-by, ending, first-cut, plan-pos, at-start, plan-is}
 
 -- ---- every PDU before the EOF, and the EOF, fits n bytes
 
@@ -92,6 +93,16 @@ step-live w s i n z expired m l =
     let b : ltb m (length (bytesFor s (w .file) d)) ≡ false = le-ltb m (length (bytesFor s (w .file) d)) (omega arith) in
     rw (unchanged w s i, b)
 
+-- where the first step is accepted
+burst-live : (s : State) (file : List ℕ) (expired : Bool) (count room : ℕ) → count ≤ 16 → stepSpec s file expired room .answer ≡ Accepted
+    → burstSpec s file expired count room .answer ≡ Accepted
+unfolding burstSpec burstAnswer
+burst-live s file expired count room l e = rw (le-ltb 16 count l, e) (go (eqb count 0))
+  where
+    go : (b : Bool) → pick b Accepted Accepted ≡ Accepted
+    go true = refl
+    go false = refl
+
 wide : (h : State) (c : LocalEntityConfig) (q : PutRequest) (source destination file : List ℕ) → Passed h c q source destination (length file)
     → Wide (transferOf c q (h .number) source destination file) (entryOf c (q .destination .1) .maxpacket)
 wide h c q source destination file p =
@@ -108,8 +119,9 @@ live h c q source destination file a cs l f expired m n =
     let p = put-passed h c q source destination (length file) a in
     let s = putSpec h c q source destination (length file) .state in
     let e = entryOf c (q .destination .1) in
-    let k = kept _ (head-fit c e q (h .number) (length file) (p .ids)) cs s (begun h c q source destination file p) l f in
-    step-live _ (behind cs s) (k .inv) (e .maxpacket) (wide h c q source destination file p) expired m n
+    let k = kept-by _ (head-fit c e q (h .number) (length file) (p .ids)) cs s (begun h c q source destination file p) l f in
+    let y = step-live _ (behind cs s) (k .inv) (e .maxpacket) (wide h c q source destination file p) expired m n in
+    (y, λ count z. burst-live (behind cs s) file expired count m z y)
 
 -- ---- a plain run
 
@@ -215,7 +227,7 @@ progress-made h c q source destination file b z a cs l f =
     let s = putSpec h c q source destination (length file) .state in
     let y = carries h c q source destination file p b z in
     let i = begun h c q source destination file p in
-    progress-sent _ y s i (begun-step h c q source destination file p) (trace cs s) (behind cs s) (kept _ (y .fit) cs s i l f)
+    progress-sent _ y s i (begun-step h c q source destination file p) (trace cs s) (behind cs s) (kept-by _ (y .fit) cs s i l f)
 
 -- ---- a used handler and a fresh one
 

@@ -1,11 +1,11 @@
 -- The number after a call: every way to another state either keeps it or is an accepted put.
 -- Assumes nothing.
-use mathlib.Core.Path.{_≡_, refl, ap, _∙_}
+use mathlib.Core.Path.{_≡_, refl, sym, ap, _∙_}
 use mathlib.Core.Bool.{Bool}
-use mathlib.Core.List.{List, [], _∷_}
+use mathlib.Core.List.{List, [], _∷_, _++_}
 use Prim.Native.Nat.{ℕ, _+_}
 use lib.Dec.{eqb, ltb}
-use lib.ListN.{length}
+use lib.ListN.{length, drop}
 use Rattle.basis.proofs.Pick.{cases}
 use Rattle.rules.specs.States.{idle}
 use Rattle.rules.specs.Put.{started, putAnswer, putState, putSpec}
@@ -13,7 +13,8 @@ use Rattle.rules.specs.Deliver.{verdictOf, movedBy, asked, byVerdict, de
 use Rattle.rules.specs.Step.{dueOf, nextLength, afterCancelEof, afterMetadata, afterData, afterEof, afterOf, changed, bytesDue, performed, stepSpec}
 use Rattle.rules.specs.Refusals.{byAnswer}
 use Rattle.rules.specs.Cancel.{resetSpec}
-use Rattle.rules.specs.Runs.{put, deliver, step, cancel, reset, Shown, began, took, went, after, unless, trace, behind}
+use Rattle.rules.specs.Burst.{burstSpec, burstBytes}
+use Rattle.rules.specs.Runs.{Single, put, deliver, step, cancel, reset, one, burst, Shown, began, took, went, after, shows, unless, madeIn, wentEach, afterCall, showsCall, trace, behind}
 use Rattle.rules.specs.NumberMoves.{moves, movesAll, NumberMoves, NumberBehind}
 use Rattle.types.specs.declared.SegmentRequest.{SegmentRequest}
 use Rattle.types.specs.declared.Meaning.{Meaning}
@@ -28,6 +29,8 @@ use Rattle.types.specs.declared.Due.the-variants.{CancelEof, Repair, Metadata, 
 use Rattle.types.specs.declared.Answer.{Answer}
 use Rattle.types.specs.declared.Answer.the-variants.{Accepted, Refused}
 use Rattle.types.specs.declared.Stepped.{Stepped}
+use Rattle.types.specs.declared.Made.{Made}
+use Rattle.rules.proofs.Singly.{burst-keeps}
 use Rattle.rules.proofs.Outcomes.{cancel-by, delivered-by}
 
 -- what leaves the number where a call is accepted leaves it where the call is refused
@@ -98,15 +101,36 @@ module _ (s : State) where
 
 -- ---- every call
 
-pub number-moves : NumberMoves
+single-moves : (c : Single) (s : State) → after c s .number ≡ moves (shows c s) (s .number)
 unfolding putSpec putState started resetSpec
-number-moves (put c q a b S) s = put-moves s (putState s c q a b S) (putAnswer s c q a b S) refl
-number-moves (deliver bytes) s = deliver-same s bytes ∙ unless-same (deliverSpec s bytes .answer) (took bytes) (s .number) refl
-number-moves (step lent expired out) s = step-same s lent expired (length out) ∙ unless-same (stepSpec s lent expired (length out) .answer) (went _) (s .number) refl
-number-moves (cancel source number) s = cancel-by s (λ e t. t .number ≡ moves e (s .number)) refl refl source number
-number-moves reset s = idle-same s
+single-moves (put c q a b S) s = put-moves s (putState s c q a b S) (putAnswer s c q a b S) refl
+single-moves (deliver bytes) s = deliver-same s bytes ∙ unless-same (deliverSpec s bytes .answer) (took bytes) (s .number) refl
+single-moves (step lent expired out) s = step-same s lent expired (length out) ∙ unless-same (stepSpec s lent expired (length out) .answer) (went _) (s .number) refl
+single-moves (cancel source number) s = cancel-by s (λ e t. t .number ≡ moves e (s .number)) refl refl source number
+single-moves reset s = idle-same s
+
+-- steps don't move it
+wents-same : (ms : List Made) (out : List ℕ) (n : TransactionSeqNum) → movesAll (wentEach ms out) n ≡ n
+unfolding movesAll
+wents-same [] out n = refl
+wents-same (m ∷ ms) out n = wents-same ms (drop (m .length) out) n
+
+pub number-moves : NumberMoves
+unfolding movesAll
+number-moves (one c) s = single-moves c s
+number-moves (burst lent expired count out) s =
+    burst-keeps (λ t. t .number ≡ s .number) lent (λ t x n e. step-same t lent x n ∙ e) s expired count (length out) refl
+    ∙ sym (wents-same (madeIn (burstSpec s lent expired count (length out))) (burstBytes s lent expired count out) (s .number))
+
+all-append : (es fs : List Shown) (n : TransactionSeqNum) → movesAll (es ++ fs) n ≡ movesAll fs (movesAll es n)
+unfolding movesAll
+all-append [] fs n = refl
+all-append (e ∷ es) fs n = all-append es fs (moves e n)
 
 pub number-behind : NumberBehind
 unfolding trace behind movesAll
 number-behind [] s = refl
-number-behind (c ∷ cs) s = number-behind cs (after c s) ∙ ap (movesAll (trace cs (after c s))) (number-moves c s)
+number-behind (c ∷ cs) s =
+    number-behind cs (afterCall c s)
+    ∙ ap (movesAll (trace cs (afterCall c s))) (number-moves c s)
+    ∙ sym (all-append (showsCall c s) (trace cs (afterCall c s)) (s .number))

@@ -22,7 +22,7 @@ use Rattle.rules.specs.Put.{putSpec}
 use Rattle.rules.specs.Deliver.{verdictOf, byVerdict, movedBy, asked, requestsIn, deliverSpec, isRefuse}
 use Rattle.rules.specs.Step.{actionFor, faultDue, ackExpired, checkExpired, eofOwed, dueAt, dueOf, sendingOf, repairOf, nextLength, afterCancelEof, afterMetadata, afterData, afterEof, afterOf, changed, performed, stepSpec}
 use Rattle.rules.specs.Tiles.{answers}
-use Rattle.rules.specs.Runs.{Call, put, deliver, step, cancel, reset, Shown, turned, began, took, went, ended, after, unless, shows, trace, behind, LendsIn, Lends, requests, isStep, stepCount, emitted, NoPut, NoEnd, StepsOnly}
+use Rattle.rules.specs.Runs.{Single, Call, put, deliver, step, cancel, reset, Shown, turned, began, took, went, ended, after, unless, shows, trace, behind, LendsIn, Lends, requests, isStep, stepCount, emitted, NoPut, NoEnd, StepsOnly}
 use Rattle.rules.specs.Demand.{Transfer, transferOf, meant}
 use Rattle.rules.specs.Companions.{NakAnswered, BenchSheet}
 use Rattle.types.specs.declared.TransactionSeqNum.{TransactionSeqNum}
@@ -45,6 +45,7 @@ use Rattle.types.specs.declared.Refusal.{Refusal}
 use Rattle.types.specs.declared.Answer.the-variants.{Accepted}
 use Rattle.types.specs.declared.Done.{Done}
 use Rattle.types.specs.declared.Stepped.{Stepped}
+use Rattle.rules.proofs.Singly.{run, end, LendsAll, singly, as-run, as-end, as-lends}
 use Rattle.rules.proofs.Tells.{neither}
 use Rattle.rules.proofs.Tiles.{length-answers}
 use Rattle.rules.proofs.Pending.{pending-none, Orderly, orderly-empty, orderly-more, served-answers, orderly-served}
@@ -249,26 +250,33 @@ module _ (w : Transfer) (pos : 0 < w .segment) (s : State) (l : Loose w s) where
       go e u StepShows.refuses = keeps turned s l
       go e u (StepShows.passes d f) = keeps (went d) _ (due-keeps w pos s b (w .file) (dueOf s expired) (due-pends s expired))
 
-  call-keeps : (c : Call) → LendsIn (w .file) c → Keeps w (shows c s) (after c s)
+  call-keeps : (c : Single) → LendsIn (w .file) c → Keeps w (shows c s) (after c s)
   call-keeps (put c q a b S) k = put-by s (Keeps w) (keeps turned s l) (λ t e. begins t) c q a b S
   call-keeps (deliver bytes) k = deliver-keeps bytes
   call-keeps (step lent expired out) k = step-keeps l lent expired out k
   call-keeps (cancel source number) k = cancel-by s (Keeps w) (keeps turned s l) (finishes _) source number
   call-keeps reset k = finishes _
 
-run-keeps : (w : Transfer) → 0 < w .segment → (cs : List Call) (s : State) → Loose w s → Lends (w .file) cs → NoEnd (trace cs s) → NoPut (trace cs s)
-    → Loose w (behind cs s)
-unfolding trace behind
+run-keeps : (w : Transfer) → 0 < w .segment → (cs : List Single) (s : State) → Loose w s → LendsAll (w .file) cs → NoEnd (run cs s) → NoPut (run cs s)
+    → Loose w (end cs s)
+unfolding run end
 run-keeps w pos [] s l k f g = l
 run-keeps w pos (c ∷ cs) s l k f g = go (shows c s) (after c s) (call-keeps w pos s l c (k .0)) (λ t j. run-keeps w pos cs t j (k .1)) f g
   where
     go :
         (e : Shown) (t : State) → Keeps w e t
-        → ((u : State) → Loose w u → NoEnd (trace cs u) → NoPut (trace cs u) → Loose w (behind cs u))
-        → NoEnd (e ∷ trace cs t) → NoPut (e ∷ trace cs t) → Loose w (behind cs t)
+        → ((u : State) → Loose w u → NoEnd (run cs u) → NoPut (run cs u) → Loose w (end cs u))
+        → NoEnd (e ∷ run cs t) → NoPut (e ∷ run cs t) → Loose w (end cs t)
     go x y (Keeps.keeps e t j) ih f g = ih t j (f .1) (g .1)
     go x y (Keeps.begins t) ih f g = absurd (g .0 refl)
     go x y (Keeps.finishes t) ih f g = absurd (f .0 refl)
+
+-- with bursts among the calls
+keeps-by : (w : Transfer) → 0 < w .segment → (cs : List Call) (s : State) → Loose w s → Lends (w .file) cs → NoEnd (trace cs s) → NoPut (trace cs s)
+    → Loose w (behind cs s)
+keeps-by w pos cs s l k f g =
+    let r = as-run cs s in
+    rw (as-end cs s) (run-keeps w pos (singly cs s) s l (as-lends (w .file) cs s k) (rw r at f) (rw r at g))
 
 -- ---- what is owed is served
 
@@ -335,7 +343,7 @@ module _ (w : Transfer) (pos : 0 < w .segment) (s : State) (v : Serving w s) whe
       go r (Heeds.adds t c a b) = takes-other bytes t
       go r (Heeds.others t e k) = takes-other bytes t
 
-  call-goes : (c : Call) → LendsIn (w .file) c → Goes w s (shows c s) (after c s)
+  call-goes : (c : Single) → LendsIn (w .file) c → Goes w s (shows c s) (after c s)
   call-goes (put c q a b S) k = put-by s (Goes w s) stays (λ t e. absurd (true≢false (sym e ∙ v .busy .awake))) c q a b S
   call-goes (deliver bytes) k = deliver-goes bytes
   call-goes (step lent expired out) k = step-goes lent expired out k
@@ -348,20 +356,20 @@ no-step e a b (inr c) = true≢false (sym c ∙ a)
 
 -- as many steps as are owed emit what is owed
 served-all :
-    (w : Transfer) → 0 < w .segment → (ds : List Call) (s : State) → Serving w s → Lends (w .file) ds → StepsOnly (trace ds s)
-    → stepCount (trace ds s) ≤ length (owedBy w s)
-    → emitted (trace ds s) ≡ take (stepCount (trace ds s)) (map (bytesOf w) (owedBy w s))
-unfolding trace flatMap
+    (w : Transfer) → 0 < w .segment → (ds : List Single) (s : State) → Serving w s → LendsAll (w .file) ds → StepsOnly (run ds s)
+    → stepCount (run ds s) ≤ length (owedBy w s)
+    → emitted (run ds s) ≡ take (stepCount (run ds s)) (map (bytesOf w) (owedBy w s))
+unfolding run flatMap
 served-all w pos [] s v l f n = refl
 served-all w pos (c ∷ ds) s v l f n =
     go (shows c s) (after c s) (call-goes w pos s v c (l .0)) (λ t u. served-all w pos ds t u (l .1)) f n
   where
     go :
         (e : Shown) (t : State) → Goes w s e t
-        → ((u : State) → Serving w u → StepsOnly (trace ds u) → stepCount (trace ds u) ≤ length (owedBy w u)
-        → emitted (trace ds u) ≡ take (stepCount (trace ds u)) (map (bytesOf w) (owedBy w u)))
-        → StepsOnly (e ∷ trace ds t) → stepCount (e ∷ trace ds t) ≤ length (owedBy w s)
-        → emitted (e ∷ trace ds t) ≡ take (stepCount (e ∷ trace ds t)) (map (bytesOf w) (owedBy w s))
+        → ((u : State) → Serving w u → StepsOnly (run ds u) → stepCount (run ds u) ≤ length (owedBy w u)
+        → emitted (run ds u) ≡ take (stepCount (run ds u)) (map (bytesOf w) (owedBy w u)))
+        → StepsOnly (e ∷ run ds t) → stepCount (e ∷ run ds t) ≤ length (owedBy w s)
+        → emitted (e ∷ run ds t) ≡ take (stepCount (e ∷ run ds t)) (map (bytesOf w) (owedBy w s))
     go x y Goes.stays ih f n = ih s v (f .1) n
     go x y (Goes.serves-next d t q u) ih f n =
         let lq = ap length q in
@@ -369,6 +377,15 @@ served-all w pos (c ∷ ds) s v l f n =
     go x y (Goes.runs-out d t q) ih f n = let lq = ap length q in absurd (omega arith)
     go x y (Goes.takes-other m t) ih f n = absurd (no-step (took m) refl (λ e. differ cc) (f .0))
     go x y (Goes.ends-it t) ih f n = absurd (no-step ended refl (λ e. differ cc) (f .0))
+
+-- with bursts among the calls
+served-by :
+    (w : Transfer) → 0 < w .segment → (ds : List Call) (s : State) → Serving w s → Lends (w .file) ds → StepsOnly (trace ds s)
+    → stepCount (trace ds s) ≤ length (owedBy w s)
+    → emitted (trace ds s) ≡ take (stepCount (trace ds s)) (map (bytesOf w) (owedBy w s))
+served-by w pos ds s v l f n =
+    let r = as-run ds s in
+    rw r (served-all w pos (singly ds s) s v (as-lends (w .file) ds s l) (rw r at f) (rw r at n))
 
 -- ---- the promises
 
@@ -388,7 +405,7 @@ all-served w c s l bytes p r (Heeds.turns n) a ds k f h = differ cc
 all-served w c s l bytes p r (Heeds.adds t m o b) a ds k f h =
     let lo = ap length o in
     let v : Serving w t = record { busy = b; unmarked = m } in
-    let e = served-all w (c .pos) ds t v k f (omega arith) in
+    let e = served-by w (c .pos) ds t v k f (omega arith) in
     ap (map decode) e
     ∙ map-take decode (stepCount (trace ds t)) (map (bytesOf w) (owedBy w t))
     ∙ ap (take (stepCount (trace ds t))) (all-read w c (owedBy w t) (b .orderly .within) ∙ ap (map (meant w)) o)
@@ -408,7 +425,7 @@ nak-answered h c q source destination file b z a cs k f g bytes n x ds j y m =
     let p = put-passed h c q source destination (length file) a in
     let s = putSpec h c q source destination (length file) .state in
     let v = carries h c q source destination file p b z in
-    let l = run-keeps _ (v .pos) cs s (loosened _ s (begun h c q source destination file p)) k f g in
+    let l = keeps-by _ (v .pos) cs s (loosened _ s (begun h c q source destination file p)) k f g in
     all-served _ v (behind cs s) l bytes n (deliverSpec (behind cs s) bytes) (deliver-heeds _ (v .pos) (behind cs s) l bytes) x ds j y m
 
 pub bench-sheet : BenchSheet

@@ -12,6 +12,7 @@ use Rattle.rules.specs.Put.{putSpec}
 use Rattle.rules.specs.Deliver.{deliverSpec}
 use Rattle.rules.specs.Step.{stepSpec, stepBytes}
 use Rattle.rules.specs.Cancel.{cancelSpec, resetSpec, newSpec}
+use Rattle.rules.specs.Burst.{burstSpec, burstBytes}
 use Rattle.types.specs.declared.EntityId.{EntityId}
 use Rattle.types.specs.declared.TransactionSeqNum.{TransactionSeqNum}
 use Rattle.types.specs.declared.LocalEntityConfig.{LocalEntityConfig}
@@ -20,6 +21,7 @@ use Rattle.types.specs.declared.State.{State}
 use Rattle.types.specs.declared.Done.{Done}
 use Rattle.types.specs.declared.Stepped.{Stepped}
 use Rattle.types.specs.declared.Cancelled.{Cancelled}
+use Rattle.types.specs.declared.Bursted.{Bursted}
 
 -- a put of S bytes: the answer and the whole new state
 abbrev pub PutMeets : State → LocalEntityConfig → PutRequest → List ℕ → List ℕ → ℕ → Done → Type 0
@@ -31,6 +33,10 @@ DeliverMeets s bytes r = r ≡ deliverSpec s bytes
 -- a step: the answer, the PDU's length, the events, the whole new state, and every byte of the out buffer before and after
 abbrev pub StepMeets : State → List ℕ → Bool → List ℕ → List ℕ → Stepped → Type 0
 StepMeets s file expired before after r = (r ≡ stepSpec s file expired (length before)) × (after ≡ stepBytes s file expired before)
+
+-- a burst: the answer, how many steps were made, the PDU's length and the events of each, the whole new state, and every byte of the out buffer before and after
+abbrev pub BurstMeets : State → List ℕ → Bool → ℕ → List ℕ → List ℕ → Bursted → Type 0
+BurstMeets s file expired count before after r = (r ≡ burstSpec s file expired count (length before)) × (after ≡ burstBytes s file expired count before)
 
 abbrev pub CancelMeets : State → EntityId → TransactionSeqNum → Cancelled → Type 0
 CancelMeets s source number r = r ≡ cancelSpec s source number

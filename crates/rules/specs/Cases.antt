@@ -1,8 +1,8 @@
--- "Byte cases": document 01's M1 to M12 about the definitions together, one statement over the list. Proof: proofs/Cases.antt.
+-- "Byte cases": document 01's M1 to M12 about the definitions together, and request R-1's, one statement over the list. Proof: proofs/Cases.antt.
 -- Assumes nothing.
 use mathlib.Core.Path.{_≡_}
 use mathlib.Core.Bool.{Bool, true, false}
-use mathlib.Core.List.{List, [], _∷_, _++_}
+use mathlib.Core.List.{List, [], _∷_, _++_, map}
 use mathlib.Core.Option.{none, some}
 use Prim.Native.Nat.{ℕ}
 use lib.ListN.{length, replicate, drop}
@@ -10,12 +10,15 @@ use Rattle.rules.specs.Refusals.{answerNo}
 use Rattle.rules.specs.Put.{noRemote, putSpec}
 use Rattle.rules.specs.Step.{stepSpec}
 use Rattle.rules.specs.Cancel.{newSpec}
-use Rattle.rules.specs.Runs.{Call, put, deliver, step, Shown, went, trace, behind}
+use Rattle.rules.specs.Burst.{burstSpec, burstBytes}
+use Rattle.rules.specs.Runs.{Call, one, burst, put, deliver, step, Shown, went, madeIn, trace, behind}
 use Rattle.types.specs.declared.RemoteEntityConfig.{RemoteEntityConfig}
 use Rattle.types.specs.declared.LocalEntityConfig.{LocalEntityConfig}
 use Rattle.types.specs.declared.Choice.the-variants.{Default}
 use Rattle.types.specs.declared.PutRequest.{PutRequest}
 use Rattle.types.specs.declared.State.{State}
+use Rattle.types.specs.declared.Made.{Made}
+use Rattle.types.specs.declared.Bursted.{Bursted}
 use Rattle.types.specs.declared.FaultEvent.{FaultEvent}
 use Rattle.types.specs.declared.FaultEvent.the-variants.{NoFault, Fault}
 
@@ -61,10 +64,10 @@ file = 0x41 ∷ 0x42 ∷ 0x43 ∷ 0x44 ∷ 0x45 ∷ []
 
 -- steps that lend these bytes and a buffer of 17
 abbrev pub stepCalls : ℕ → List ℕ → List Call
-stepCalls n lent = replicate n (step lent false (replicate 17 0))
+stepCalls n lent = replicate n (one (step lent false (replicate 17 0)))
 
 abbrev pub withPut : RemoteEntityConfig → List ℕ → List Call → List Call
-withPut r lent cs = put (config r) request a b (length lent) ∷ cs
+withPut r lent cs = one (put (config r) request a b (length lent)) ∷ cs
 
 -- what the calls behind the put and the first n show the host
 unfoldable pub run : ℕ → RemoteEntityConfig → List ℕ → List Call → List Shown
@@ -76,6 +79,25 @@ stateBehind r cs = behind (withPut r file cs) (newSpec (1, 7))
 -- how many requests are pending
 unfoldable pub pendingCount : RemoteEntityConfig → List Call → ℕ
 pendingCount r cs = stateBehind r cs .queue .count
+
+-- ---- bursts of 16 that lend the file and a buffer of n bytes
+
+abbrev pub bursts : ℕ → Call
+bursts n = burst file false 16 (replicate n 0)
+
+-- the lengths that the next one tells, and all bytes of its out buffer
+abbrev pub lengthsOf : Bursted → List ℕ
+lengthsOf r = map (λ (m : Made). m .length) (madeIn r)
+
+unfoldable pub nextLengths : ℕ → List Call → List ℕ
+nextLengths n cs = lengthsOf (burstSpec (stateBehind unackRemote cs) file false 16 n)
+
+unfoldable pub nextBytes : ℕ → List Call → List ℕ
+nextBytes n cs = burstBytes (stateBehind unackRemote cs) file false 16 (replicate n 0)
+
+-- the lengths of one with the expiry flag, acknowledged, with limit 2
+unfoldable pub expiredLengths : List Call → List ℕ
+expiredLengths cs = lengthsOf (burstSpec (stateBehind (remote false 17 2) cs) file true 16 64)
 
 -- the fault event of the next step, made with the expiry flag
 unfoldable pub nextFault : RemoteEntityConfig → List Call → FaultEvent
@@ -91,10 +113,10 @@ large S = putSpec (newSpec (1, 7)) (config (remote true 4096 1)) request a b S .
 -- ---- what the peer says, towards the sender
 
 abbrev pub ackOfEof : Call
-ackOfEof = deliver (0x28 ∷ 0x00 ∷ 0x03 ∷ 0x00 ∷ 0x01 ∷ 0x07 ∷ 0x02 ∷ 0x06 ∷ 0x40 ∷ 0x01 ∷ [])
+ackOfEof = one (deliver (0x28 ∷ 0x00 ∷ 0x03 ∷ 0x00 ∷ 0x01 ∷ 0x07 ∷ 0x02 ∷ 0x06 ∷ 0x40 ∷ 0x01 ∷ []))
 
 abbrev pub finishedPdu : Call
-finishedPdu = deliver (0x28 ∷ 0x00 ∷ 0x02 ∷ 0x00 ∷ 0x01 ∷ 0x07 ∷ 0x02 ∷ 0x05 ∷ 0x02 ∷ [])
+finishedPdu = one (deliver (0x28 ∷ 0x00 ∷ 0x02 ∷ 0x00 ∷ 0x01 ∷ 0x07 ∷ 0x02 ∷ 0x05 ∷ 0x02 ∷ []))
 
 -- a NAK of the scope (0, 5): what stands before its pairs, with a data field of n bytes
 abbrev pub nakFront : ℕ → List ℕ
@@ -104,10 +126,27 @@ abbrev pub pair : ℕ → ℕ → List ℕ
 pair start end = 0 ∷ 0 ∷ 0 ∷ start ∷ 0 ∷ 0 ∷ 0 ∷ end ∷ []
 
 abbrev pub nak04and00 : Call
-nak04and00 = deliver (nakFront 25 ++ pair 0 4 ++ pair 0 0)
+nak04and00 = one (deliver (nakFront 25 ++ pair 0 4 ++ pair 0 0))
 
 abbrev pub nak05 : Call
-nak05 = deliver (nakFront 17 ++ pair 0 5)
+nak05 = one (deliver (nakFront 17 ++ pair 0 5))
+
+-- ---- the stream, in bytes
+
+abbrev pub m1 : List ℕ
+m1 = 0x24 ∷ 0x00 ∷ 0x0A ∷ 0x00 ∷ 0x01 ∷ 0x07 ∷ 0x02 ∷ 0x07 ∷ 0x00 ∷ 0x00 ∷ 0x00 ∷ 0x00 ∷ 0x05 ∷ 0x01 ∷ 0x61 ∷ 0x01 ∷ 0x62 ∷ []
+
+abbrev pub m2 : List ℕ
+m2 = 0x34 ∷ 0x00 ∷ 0x08 ∷ 0x00 ∷ 0x01 ∷ 0x07 ∷ 0x02 ∷ 0x00 ∷ 0x00 ∷ 0x00 ∷ 0x00 ∷ 0x41 ∷ 0x42 ∷ 0x43 ∷ 0x44 ∷ []
+
+abbrev pub m3 : List ℕ
+m3 = 0x34 ∷ 0x00 ∷ 0x05 ∷ 0x00 ∷ 0x01 ∷ 0x07 ∷ 0x02 ∷ 0x00 ∷ 0x00 ∷ 0x00 ∷ 0x04 ∷ 0x45 ∷ []
+
+abbrev pub m4 : List ℕ
+m4 = 0x24 ∷ 0x00 ∷ 0x0A ∷ 0x00 ∷ 0x01 ∷ 0x07 ∷ 0x02 ∷ 0x04 ∷ 0x00 ∷ 0x86 ∷ 0x42 ∷ 0x43 ∷ 0x44 ∷ 0x00 ∷ 0x00 ∷ 0x00 ∷ 0x05 ∷ []
+
+abbrev pub wholeStream : List Shown
+wholeStream = went (some m1) ∷ went (some m2) ∷ went (some m3) ∷ went (some m4) ∷ went none ∷ []
 
 -- ---- the cases
 
@@ -122,13 +161,17 @@ Hold ((computed gives written) ∷ cs) = (computed ≡ written) × Hold cs
 abbrev pub byteCases : List Case
 byteCases =
     -- M1 to M4: "The whole stream, four steps"; a fifth emits nothing
-    (run 0 unackRemote file (stepCalls 5 file) gives
-    (went (some (0x24 ∷ 0x00 ∷ 0x0A ∷ 0x00 ∷ 0x01 ∷ 0x07 ∷ 0x02 ∷ 0x07 ∷ 0x00 ∷ 0x00 ∷ 0x00 ∷ 0x00 ∷ 0x05 ∷ 0x01 ∷ 0x61 ∷ 0x01 ∷ 0x62 ∷ []))
-    ∷ went (some (0x34 ∷ 0x00 ∷ 0x08 ∷ 0x00 ∷ 0x01 ∷ 0x07 ∷ 0x02 ∷ 0x00 ∷ 0x00 ∷ 0x00 ∷ 0x00 ∷ 0x41 ∷ 0x42 ∷ 0x43 ∷ 0x44 ∷ []))
-    ∷ went (some (0x34 ∷ 0x00 ∷ 0x05 ∷ 0x00 ∷ 0x01 ∷ 0x07 ∷ 0x02 ∷ 0x00 ∷ 0x00 ∷ 0x00 ∷ 0x04 ∷ 0x45 ∷ []))
-    ∷ went (some (0x24 ∷ 0x00 ∷ 0x0A ∷ 0x00 ∷ 0x01 ∷ 0x07 ∷ 0x02 ∷ 0x04 ∷ 0x00 ∷ 0x86 ∷ 0x42 ∷ 0x43 ∷ 0x44 ∷ 0x00 ∷ 0x00 ∷ 0x00 ∷ 0x05 ∷ []))
-    ∷ went none
-    ∷ []))
+    (run 0 unackRemote file (stepCalls 5 file) gives wholeStream)
+    -- R-1: the same in one burst, its last step the one that emits nothing; in a buffer of 60 bytes the first burst has three, the second the fourth
+    ∷ (run 0 unackRemote file (bursts 64 ∷ []) gives wholeStream)
+    ∷ (nextLengths 64 [] gives 17 ∷ 15 ∷ 12 ∷ 17 ∷ 0 ∷ [])
+    ∷ (nextBytes 64 [] gives m1 ++ m2 ++ m3 ++ m4 ++ 0 ∷ 0 ∷ 0 ∷ [])
+    ∷ (nextLengths 60 [] gives 17 ∷ 15 ∷ 12 ∷ [])
+    ∷ (nextBytes 60 [] gives m1 ++ m2 ++ m3 ++ replicate 16 0)
+    ∷ (nextLengths 60 (bursts 60 ∷ []) gives 17 ∷ 0 ∷ [])
+    ∷ (run 0 unackRemote file (bursts 60 ∷ bursts 60 ∷ []) gives wholeStream)
+    -- R-1: "The expiry flag holds for the first step only": the EOF once again, then nothing
+    ∷ (expiredLengths (stepCalls 4 file) gives 17 ∷ 0 ∷ [])
     -- M5: "packet maximum 16: PacketLimit"; 17 is accepted
     ∷ (putNo (remote true 16 1) a b gives 8)
     ∷ (putNo (remote true 17 1) a b gives 0)

@@ -19,8 +19,9 @@ use Rattle.rules.specs.Put.{entryOf, putSpec}
 use Rattle.rules.specs.Deliver.{deliverSpec}
 use Rattle.rules.specs.Step.{stepSpec}
 use Rattle.rules.specs.Cancel.{newSpec}
+use Rattle.rules.specs.Burst.{burstSpec}
 use Rattle.rules.specs.Tiles.{ceil, answers, weights}
-use Rattle.rules.specs.Runs.{All, Call, step, trace, behind, Lends, requests, stepCount, emitted, Labelled, first, repair, labelled, firstPass, NoPut, NoEnd, BeforeEof, StepsOnly}
+use Rattle.rules.specs.Runs.{All, Call, one, step, trace, behind, Lends, requests, stepCount, emitted, Labelled, first, repair, labelled, firstPass, NoPut, NoEnd, BeforeEof, StepsOnly}
 use Rattle.types.specs.declared.Head.{Head}
 use Rattle.types.specs.declared.LocalEntityConfig.{LocalEntityConfig}
 use Rattle.types.specs.declared.PutRequest.{PutRequest}
@@ -29,8 +30,8 @@ use Rattle.types.specs.declared.Answer.the-variants.{Accepted}
 use Rattle.types.specs.declared.State.{State}
 use Rattle.rules.specs.Demand.{transferOf, meant, planned, lastly}
 
--- PROMISE live: with this file lent and an out buffer of at least the packet maximum, no step before the EOF is refused. So, by `early`, the EOF
--- leaves once that many such steps were made.
+-- PROMISE live: with this file lent and an out buffer of at least the packet maximum, no step before the EOF is refused, and no burst of at most 16. So, by
+-- `early`, the EOF leaves once that many such steps were made.
 abbrev pub Live : Type 0
 Live =
     (h : State) (c : LocalEntityConfig) (q : PutRequest) (source destination file : List ℕ)
@@ -39,11 +40,12 @@ Live =
     → let s = putSpec h c q source destination (length file) .state in
     BeforeEof (trace cs s)
     → (expired : Bool) (room : ℕ) → entryOf c (q .destination .1) .maxpacket ≤ room
-    → stepSpec (behind cs s) file expired room .answer ≡ Accepted
+    → (stepSpec (behind cs s) file expired room .answer ≡ Accepted)
+    × ((count : ℕ) → count ≤ 16 → burstSpec (behind cs s) file expired count room .answer ≡ Accepted)
 
 -- steps that lend the file and an out buffer of at least n bytes
 abbrev pub PlainSteps : List ℕ → ℕ → List Call → Type 0
-PlainSteps file n cs = All (λ c. (expired : Bool) × (out : List ℕ) × (c ≡ step file expired out) × (n ≤ length out)) cs
+PlainSteps file n cs = All (λ c. (expired : Bool) × (out : List ℕ) × (c ≡ one (step file expired out)) × (n ≤ length out)) cs
 
 -- PROMISE plain-run: with nothing delivered, the first 2 + ceil(S/L) such steps emit the metadata, the file's tiles and the EOF.
 abbrev pub PlainRun : Type 0

@@ -16,7 +16,7 @@ use Rattle.rules_pdu.specs.Layout.{Said, metadata, fileData, eof, ackFinished, 
 use Rattle.rules_pdu.specs.Decoding.{withHead, decode, isEofIn, fileDataOf}
 use Rattle.rules.specs.Put.{entryOf, chosen, headOf, putSpec}
 use Rattle.rules.specs.Tiles.{ceil, tiles}
-use Rattle.rules.specs.Runs.{Call, Shown, went, shows, trace, behind, LendsIn, Lends, stepCount, BeforeEof, NoPut, repairsOwed, R, firstPass, repairs}
+use Rattle.rules.specs.Runs.{Call, Shown, went, trace, Lends, stepCount, BeforeEof, NoPut, repairsOwed, R, firstPass, repairs}
 use Rattle.types.specs.declared.TransactionSeqNum.{TransactionSeqNum}
 use Rattle.types.specs.declared.Head.{Head}
 use Rattle.types.specs.declared.RemoteEntityConfig.{RemoteEntityConfig}
@@ -97,7 +97,7 @@ abbrev pub isEof : Option (List ℕ) → Bool
 isEof none = false
 isEof (some pdu) = isEofIn pdu
 
--- ---- the demand. es is what the calls since the put have shown, up to any moment before the EOF; L is w .segment, S is length (w .file)
+-- ---- the demand. es is what the calls since the put have shown, up to any moment before the EOF, a burst's steps one by one; L is w .segment, S is length (w .file)
 
 -- "the unrefused step numbered 2 + ceil(S/L) + R"; R counts the NAKs accepted so far
 abbrev pub eofStep : Transfer → List Shown → ℕ
@@ -132,9 +132,9 @@ pub record AtStep (w : Transfer) (es : List Shown) (d : Option (List ℕ)) : Typ
   pub when : (isEof d ≡ true) ↔ (suc (stepCount es) ≡ eofStep w es)
   pub what : isEof d ≡ true → (pdu : List ℕ) × (d ≡ some pdu) × AtEof w es pdu
 
--- PROMISE third-demand: after an accepted put of a file on any handler, fresh or used, and any calls that lend this file and show no EOF, no cancel and
--- no reset, what stands above: of all that they have shown, and of the next call, if it is an unrefused step. `decode` is the other side's reading, by
--- document 01's layouts and not by the writer's definitions.
+-- PROMISE third-demand: an accepted put of a file on any handler, fresh or used, and then any calls that lend this file, bursts among them. At every moment before which they
+-- have shown no EOF, no cancel and no reset (es: all that is shown up to then; also between two steps of a burst) it is as stands above: so far, and with what is shown
+-- next, if that is an unrefused step. `decode` is the other side's reading, by document 01's layouts and not by the writer's definitions.
 abbrev pub ThirdDemand : Type 0
 ThirdDemand =
     (h : State) (c : LocalEntityConfig) (q : PutRequest) (source destination file : List ℕ)
@@ -143,6 +143,5 @@ ThirdDemand =
     → (cs : List Call) → Lends file cs
     → let s = putSpec h c q source destination (length file) .state in
     let w = transferOf c q (h .number) source destination file in
-    BeforeEof (trace cs s)
-    → SoFar w (trace cs s)
-    × ((next : Call) (d : Option (List ℕ)) → LendsIn file next → shows next (behind cs s) ≡ went d → AtStep w (trace cs s) d)
+    (es : List Shown) → Front es (trace cs s) → BeforeEof es
+    → SoFar w es × ((d : Option (List ℕ)) → Front (es ++ went d ∷ []) (trace cs s) → AtStep w es d)

@@ -6,7 +6,7 @@ use mathlib.Core.Logic.{_↔_, _⊎_}
 use mathlib.Core.Bool.{Bool, true, false}
 use mathlib.Core.List.{List, [], _∷_, _++_}
 use Prim.Native.Nat.{ℕ, suc, _+_, _-_, _*_, _/_, _%_, _^_, _<_}
-use lib.ListN.{length, take, drop}
+use lib.ListN.{length, take, drop, replicate}
 use Rattle.basis.specs.Bytes.{byte, numAt}
 use Rattle.rules_pdu.specs.Numbers.{F}
 use Rattle.rules_leaves.specs.Utf8.{Utf8}
@@ -20,6 +20,7 @@ use Rattle.rules.specs.Put.{isFound, entryOf, chosen, headOf, putSpec}
 use Rattle.rules.specs.Deliver.{requestsIn, deliverSpec}
 use Rattle.rules.specs.Step.{bytesDue, stepSpec, stepBytes}
 use Rattle.rules.specs.Cancel.{cancelSpec}
+use Rattle.rules.specs.Burst.{noneMade, burstSpec, burstBytes}
 use Rattle.types.specs.declared.EntityId.{EntityId}
 use Rattle.types.specs.declared.TransactionSeqNum.{TransactionSeqNum}
 use Rattle.types.specs.declared.Head.{Head}
@@ -232,6 +233,22 @@ abbrev pub StepExactly : Type 0
 StepExactly =
     (s : State) (file : List ℕ) (expired : Bool) (room : ℕ) → Exactly (stepRules s file expired room) (answerNo (stepSpec s file expired room .answer))
 
+-- ---- burst: 32, 30, 31
+
+-- the first step's refusals only where there is a first step
+abbrev pub burstRules : State → List ℕ → Bool → ℕ → ℕ → List Rule
+burstRules s file expired count room =
+    (32 when 16 < count)
+    ∷ (30 when (0 < count) × (¬ (s .step ≡ Idle)) × (¬ (length file ≡ s .fixed .size)))
+    ∷ (31 when (0 < count) × (room < length (bytesDue s file expired)))
+    ∷ []
+
+-- PROMISE burst-exactly: a burst gives each number exactly when the table says so: 32 for a count above 16, else what its first step gives.
+abbrev pub BurstExactly : Type 0
+BurstExactly =
+    (s : State) (file : List ℕ) (expired : Bool) (count room : ℕ)
+    → Exactly (burstRules s file expired count room) (answerNo (burstSpec s file expired count room .answer))
+
 -- ---- cancel
 
 -- PROMISE cancel-exactly: "Cancel answers no .. when Idle, closing or already cancelled, or when the source id or number given differs in value; else yes."
@@ -250,7 +267,8 @@ CancelExactly =
 abbrev pub NoEvents : Events → Type 0
 NoEvents e = (e .transaction ≡ false) × (e .eofsent ≡ false) × (e .fault ≡ NoFault) × (e .finished ≡ NotFinished) × (e .timer ≡ NoTimer)
 
--- PROMISE refusal-changes-nothing: a refused call leaves the state as it was; a refused step gives no event and no PDU, and leaves every byte of the out buffer.
+-- PROMISE refusal-changes-nothing: a refused call leaves the state as it was; a refused step gives no event and no PDU, and leaves every byte of the out buffer;
+-- a refused burst has made no step.
 pub record RefusalChangesNothing : Type 0 where
   pub put : (s : State) (c : LocalEntityConfig) (q : PutRequest) (source destination : List ℕ) (S : ℕ)
       → (¬ (answerNo (putSpec s c q source destination S .answer) ≡ 0)) → putSpec s c q source destination S .state ≡ s
@@ -261,4 +279,10 @@ pub record RefusalChangesNothing : Type 0 where
       × (stepSpec s file expired (length out) .length ≡ 0)
       × NoEvents (stepSpec s file expired (length out) .events)
       × (stepBytes s file expired out ≡ out)
+  pub burst : (s : State) (file : List ℕ) (expired : Bool) (count : ℕ) (out : List ℕ)
+      → (¬ (answerNo (burstSpec s file expired count (length out) .answer) ≡ 0))
+      → (burstSpec s file expired count (length out) .state ≡ s)
+      × (burstSpec s file expired count (length out) .count ≡ 0)
+      × (burstSpec s file expired count (length out) .steps ≡ replicate 16 noneMade)
+      × (burstBytes s file expired count out ≡ out)
   pub cancel : (s : State) (source : EntityId) (number : TransactionSeqNum) → cancelSpec s source number .yes ≡ false → cancelSpec s source number .state ≡ s

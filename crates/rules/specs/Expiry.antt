@@ -9,7 +9,7 @@ use lib.ListN.{length, replicate}
 use Rattle.rules_pdu.specs.Layout.{eof, encode}
 use Rattle.rules.specs.States.{withMarks, counted}
 use Rattle.rules.specs.Step.{faultDue, dueOf}
-use Rattle.rules.specs.Runs.{Call, step, went, trace, behind}
+use Rattle.rules.specs.Runs.{Call, one, step, went, trace, behind}
 use Rattle.types.specs.declared.Fixed.{Fixed}
 use Rattle.types.specs.declared.State.{State}
 use Rattle.types.specs.declared.TransactionStep.the-variants.{WaitingForEofAck}
@@ -39,7 +39,7 @@ repeatsLeft s = s .fixed .limit - 1 - s .marks .count
 
 -- steps with the expiry flag that lend the file and an out buffer
 abbrev pub expiries : ℕ → List ℕ → List ℕ → List Call
-expiries k file out = replicate k (step file true out)
+expiries k file out = replicate k (one (step file true out))
 
 pub record CountedFrom (s : State) (file out : List ℕ) : Type 0 where
   -- each of these steps emits the kept EOF's bytes again

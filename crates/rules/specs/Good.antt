@@ -19,7 +19,8 @@ use Rattle.rules.specs.Put.{putSpec}
 use Rattle.rules.specs.Deliver.{deliverSpec}
 use Rattle.rules.specs.Step.{bytesDue, stepSpec}
 use Rattle.rules.specs.Cancel.{cancelSpec, resetSpec, newSpec}
-use Rattle.rules.specs.Runs.{All, Call, put, deliver, step, cancel, reset, behind}
+use Rattle.rules.specs.Burst.{burstSpec}
+use Rattle.rules.specs.Runs.{All, Single, put, deliver, step, cancel, reset, Call, one, burst, behind}
 use Rattle.rules.specs.Exactly.{KnownType, OneUnknown}
 use Rattle.types.specs.declared.EntityId.{EntityId}
 use Rattle.types.specs.declared.TransactionSeqNum.{TransactionSeqNum}
@@ -133,16 +134,21 @@ pub record GoodKept : Type 0 where
       → Good (putSpec s c q source destination S .state)
   pub deliver : (s : State) (bytes : List ℕ) → Bytes bytes → Good s → Good (deliverSpec s bytes .state)
   pub step : (s : State) (file : List ℕ) (expired : Bool) (room : ℕ) → Bytes file → Good s → Good (stepSpec s file expired room .state)
+  pub burst : (s : State) (file : List ℕ) (expired : Bool) (count room : ℕ) → Bytes file → Good s → Good (burstSpec s file expired count room .state)
   pub cancel : (s : State) (source : EntityId) (number : TransactionSeqNum) → Good s → Good (cancelSpec s source number .state)
   pub reset : (s : State) → Good s → Good (resetSpec s)
 
 -- a call with bytes that are bytes, and a size of 64 bits
+abbrev pub ProperSingle : Single → Type 0
+ProperSingle (put c q source destination S) = S < 2 ^ 64
+ProperSingle (deliver bytes) = Bytes bytes
+ProperSingle (step lent expired out) = Bytes lent
+ProperSingle (cancel source number) = Unit {0}
+ProperSingle reset = Unit {0}
+
 abbrev pub ProperCall : Call → Type 0
-ProperCall (put c q source destination S) = S < 2 ^ 64
-ProperCall (deliver bytes) = Bytes bytes
-ProperCall (step lent expired out) = Bytes lent
-ProperCall (cancel source number) = Unit {0}
-ProperCall reset = Unit {0}
+ProperCall (one c) = ProperSingle c
+ProperCall (burst lent expired count out) = Bytes lent
 
 abbrev pub Proper : List Call → Type 0
 Proper cs = All ProperCall cs

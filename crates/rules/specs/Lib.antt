@@ -5,6 +5,7 @@ pub mod Put
 pub mod Deliver
 pub mod Step
 pub mod Cancel
+pub mod Burst
 pub mod Calls
 pub mod Tiles
 pub mod Runs
@@ -14,6 +15,7 @@ pub mod Cases
 pub mod OneOutcome
 pub mod Exactly
 pub mod Good
+pub mod Bursts
 pub mod Events
 pub mod NumberMoves
 pub mod Expiry

@@ -3,11 +3,11 @@
 use mathlib.Core.Path.{_≡_}
 use mathlib.Core.List.{List, [], _∷_}
 use Rattle.rules_pdu.specs.Numbers.{numberAfter}
-use Rattle.rules.specs.Runs.{Call, Shown, turned, began, took, went, ended, after, shows, trace, behind}
+use Rattle.rules.specs.Runs.{Call, Shown, turned, began, took, went, ended, afterCall, showsCall, trace, behind}
 use Rattle.types.specs.declared.TransactionSeqNum.{TransactionSeqNum}
 use Rattle.types.specs.declared.State.{State}
 
--- an accepted put moves it by one; a refused call, a delivery, a step, a cancel or a reset leaves it
+-- an accepted put moves it by one; a refused call, a delivery, a step (also of a burst), a cancel or a reset leaves it
 abbrev pub moves : Shown → TransactionSeqNum → TransactionSeqNum
 moves turned n = n
 moves began n = numberAfter n
@@ -19,9 +19,9 @@ unfoldable pub movesAll : List Shown → TransactionSeqNum → TransactionSeqNum
 movesAll [] n = n
 movesAll (e ∷ es) n = movesAll es (moves e n)
 
--- PROMISE number-moves: after any call the number is what `moves` makes of it, by what the call shows.
+-- PROMISE number-moves: after any call the number is what `moves` makes of it, by what the call shows; a burst leaves it.
 abbrev pub NumberMoves : Type 0
-NumberMoves = (c : Call) (s : State) → after c s .number ≡ moves (shows c s) (s .number)
+NumberMoves = (c : Call) (s : State) → afterCall c s .number ≡ movesAll (showsCall c s) (s .number)
 
 -- PROMISE number-behind: so after any calls it was moved once by each accepted put, and by nothing else.
 abbrev pub NumberBehind : Type 0

@@ -6,7 +6,7 @@ use Prim.Native.Nat.{ℕ}
 use Rattle.basis.specs.Pick.{pick}
 use Rattle.types.specs.declared.State.{State}
 use Rattle.types.specs.declared.Refusal.{Refusal}
-use Rattle.types.specs.declared.Refusal.the-variants.{AlreadyBusy, BadIdWidth, NoRemoteCfgFound, BadConfig, BadNameLength, SourceFileNotValidUtf8, DestFileNotValidUtf8, PacketLimit, Malformed, CantProcessPacketType, UnexpectedPdu, OtherTransaction, InvalidNakPdu, RetransmitFull, FileChanged, OutTooSmall}
+use Rattle.types.specs.declared.Refusal.the-variants.{AlreadyBusy, BadIdWidth, NoRemoteCfgFound, BadConfig, BadNameLength, SourceFileNotValidUtf8, DestFileNotValidUtf8, PacketLimit, Malformed, CantProcessPacketType, UnexpectedPdu, OtherTransaction, InvalidNakPdu, RetransmitFull, FileChanged, OutTooSmall, BurstTooLong}
 use Rattle.types.specs.declared.Answer.{Answer}
 use Rattle.types.specs.declared.Answer.the-variants.{Accepted, Refused}
 use Rattle.types.specs.declared.Done.{Done}
@@ -53,6 +53,7 @@ refusalNo InvalidNakPdu = 24
 refusalNo RetransmitFull = 25
 refusalNo FileChanged = 30
 refusalNo OutTooSmall = 31
+refusalNo BurstTooLong = 32
 
 abbrev pub answerNo : Answer → ℕ
 answerNo Accepted = 0

@@ -1,4 +1,4 @@
--- A run: calls of any kind made one after another, what each shows the host, and what can be counted from that alone.
+-- A run: calls of any kind made one after another, bursts among them, what each shows the host, and what can be counted from that alone.
 -- From the heading "what can be counted" on, nothing looks into the handler. `flatMap f l` is f of each element of l, joined; `λ e. P` is P, said of e.
 -- Assumes nothing.
 use mathlib.Core.Path.{_≡_}
@@ -8,7 +8,7 @@ use mathlib.Core.List.{List, [], _∷_, _++_, map, flatMap}
 use mathlib.Core.Option.{Option, none, some}
 use Prim.Native.Nat.{ℕ, zero, suc, _+_, _-_}
 use lib.Dec.{ltb}
-use lib.ListN.{length, take}
+use lib.ListN.{length, take, drop}
 use Rattle.basis.specs.Pick.{pick, flag}
 use Rattle.basis.specs.Bytes.{part}
 use Rattle.rules_pdu.specs.Reading.{framedIn, bodyOf}
@@ -17,6 +17,7 @@ use Rattle.rules.specs.Put.{putSpec}
 use Rattle.rules.specs.Deliver.{deliverSpec, asked}
 use Rattle.rules.specs.Step.{stepSpec, stepBytes}
 use Rattle.rules.specs.Cancel.{cancelSpec, resetSpec}
+use Rattle.rules.specs.Burst.{burstSpec, burstBytes}
 use Rattle.rules.specs.Tiles.{answers, weights}
 use Rattle.types.specs.declared.EntityId.{EntityId}
 use Rattle.types.specs.declared.TransactionSeqNum.{TransactionSeqNum}
@@ -32,6 +33,8 @@ use Rattle.types.specs.declared.Answer.{Answer}
 use Rattle.types.specs.declared.Answer.the-variants.{Accepted, Refused}
 use Rattle.types.specs.declared.Sending.{Sending}
 use Rattle.types.specs.declared.State.{State}
+use Rattle.types.specs.declared.Made.{Made}
+use Rattle.types.specs.declared.Bursted.{Bursted}
 
 -- ---- lists
 
@@ -47,15 +50,20 @@ those test (x ∷ xs) = pick (test x) (x ∷ those test xs) (those test xs)
 
 -- ---- calls, and what they show
 
--- a step lends the file and the out buffer
-pub data Call : Type 0 where
-  put : (config : LocalEntityConfig) → (request : PutRequest) → (source destination : List ℕ) → (S : ℕ) → Call
-  deliver : (bytes : List ℕ) → Call
-  step : (lent : List ℕ) → (expired : Bool) → (out : List ℕ) → Call
-  cancel : (source : EntityId) → (number : TransactionSeqNum) → Call
-  reset : Call
+-- a single call; a step lends the file and the out buffer
+pub data Single : Type 0 where
+  put : (config : LocalEntityConfig) → (request : PutRequest) → (source destination : List ℕ) → (S : ℕ) → Single
+  deliver : (bytes : List ℕ) → Single
+  step : (lent : List ℕ) → (expired : Bool) → (out : List ℕ) → Single
+  cancel : (source : EntityId) → (number : TransactionSeqNum) → Single
+  reset : Single
 
--- what a call shows the host
+-- what a host calls: one of these, or a burst
+pub data Call : Type 0 where
+  one : (c : Single) → Call
+  burst : (lent : List ℕ) → (expired : Bool) → (count : ℕ) → (out : List ℕ) → Call
+
+-- what a single call, or a step of a burst, shows the host
 pub data Shown : Type 0 where
   turned : Shown  -- refused, or a cancel that answers no
   began : Shown  -- an accepted put
@@ -63,8 +71,8 @@ pub data Shown : Type 0 where
   went : (pdu : Option (List ℕ)) → Shown  -- an unrefused step: the PDU's bytes in the out buffer, or none
   ended : Shown  -- a cancel that answers yes, or a reset
 
--- the state after a call
-abbrev pub after : Call → State → State
+-- the state after a single call
+abbrev pub after : Single → State → State
 after (put c q a b S) s = putSpec s c q a b S .state
 after (deliver bytes) s = deliverSpec s bytes .state
 after (step lent expired out) s = stepSpec s lent expired (length out) .state
@@ -81,7 +89,7 @@ abbrev pub pduIn : ℕ → List ℕ → Option (List ℕ)
 pduIn zero out = none
 pduIn (suc n) out = some (take (suc n) out)
 
-abbrev pub shows : Call → State → Shown
+abbrev pub shows : Single → State → Shown
 shows (put c q a b S) s = unless (putSpec s c q a b S .answer) began
 shows (deliver bytes) s = unless (deliverSpec s bytes .answer) (took bytes)
 shows (step lent expired out) s =
@@ -90,21 +98,47 @@ shows (step lent expired out) s =
 shows (cancel source number) s = pick (cancelSpec s source number .yes) ended turned
 shows reset s = ended
 
+-- ---- a burst
+
+-- the steps that it made, as it tells the host
+abbrev pub madeIn : Bursted → List Made
+madeIn r = take (r .count) (r .steps)
+
+-- "a burst counts as the steps it made": each has its PDU in the out buffer behind the one before; a refused burst made none
+abbrev pub wentEach : List Made → List ℕ → List Shown
+wentEach [] out = []
+wentEach (m ∷ ms) out = went (pduIn (m .length) out) ∷ wentEach ms (drop (m .length) out)
+
+-- ---- a run
+
+-- the state after a call, and what it shows, step by step
+abbrev pub afterCall : Call → State → State
+afterCall (one c) s = after c s
+afterCall (burst lent expired count out) s = burstSpec s lent expired count (length out) .state
+
+abbrev pub showsCall : Call → State → List Shown
+showsCall (one c) s = shows c s ∷ []
+showsCall (burst lent expired count out) s = wentEach (madeIn (burstSpec s lent expired count (length out))) (burstBytes s lent expired count out)
+
 -- what the calls of a run show, one after another, and the state behind it
 unfoldable pub trace : List Call → State → List Shown
 trace [] s = []
-trace (c ∷ cs) s = shows c s ∷ trace cs (after c s)
+trace (c ∷ cs) s = showsCall c s ++ trace cs (afterCall c s)
 
 unfoldable pub behind : List Call → State → State
 behind [] s = s
-behind (c ∷ cs) s = behind cs (after c s)
+behind (c ∷ cs) s = behind cs (afterCall c s)
 
--- "the same file lent throughout": a step that lends as many bytes lends this file. (Steps that lend another length are refused by 30.)
-abbrev pub LendsIn : List ℕ → Call → Type 0
+-- "the same file lent throughout": a step or a burst that lends as many bytes lends this file. (One that lends another length is refused by 30.)
+abbrev pub LendsIn : List ℕ → Single → Type 0
 LendsIn file c = (lent : List ℕ) (expired : Bool) (out : List ℕ) → c ≡ step lent expired out → length lent ≡ length file → lent ≡ file
 
+abbrev pub LendsCall : List ℕ → Call → Type 0
+LendsCall file (one c) = LendsIn file c
+LendsCall file (burst lent expired count out) = length lent ≡ length file → lent ≡ file
+
 abbrev pub Lends : List ℕ → List Call → Type 0
-Lends file cs = All (LendsIn file) cs
+Lends file cs = All (LendsCall file) cs
 
 -- ---- what can be counted
 

@@ -5,17 +5,15 @@ use mathlib.Core.Bool.{Bool, true, false}
 use native.Mathlib.Omega.{arith}
 use lib.ListN.{length}
 use Rattle.basis.specs.Pick.{flag}
-use Rattle.rules.specs.Refusals.{refusalNo, answerNo}
+use Rattle.rules.specs.Refusals.{answerNo}
 use Rattle.rules.specs.Put.{putSpec}
 use Rattle.rules.specs.Deliver.{deliverSpec}
 use Rattle.rules.specs.Step.{stepSpec}
 use Rattle.rules.specs.Cancel.{cancelSpec, resetSpec, newSpec}
 use Rattle.types.specs.declared.State.{State}
-use Rattle.types.specs.declared.Refusal.{Refusal}
-use Rattle.types.specs.declared.Refusal.the-variants.{AlreadyBusy, BadIdWidth, NoRemoteCfgFound, BadConfig, BadNameLength, SourceFileNotValidUtf8, DestFileNotValidUtf8, PacketLimit, Malformed, CantProcessPacketType, UnexpectedPdu, OtherTransaction, InvalidNakPdu, RetransmitFull, FileChanged, OutTooSmall}
 use Rattle.types.specs.declared.Answer.{Answer}
 use Rattle.types.specs.declared.Answer.the-variants.{Accepted, Refused}
-use Rattle.rules.proofs.Exactly.{refusal-changes-nothing}
+use Rattle.rules.proofs.Exactly.{numbered, refusal-changes-nothing}
 use Rattle.seam_rules.specs.Memory.{flagOf, stateOf, configOf, heldOf, reportOf, noReport, requestOf}
 use Rattle.seam_rules.specs.Seam.{byAnswer, byWord, newDone, putDone, deliverDone, stepDone, stepOut, cancelDone, resetDone}
 use Rattle.seam_rules.specs.Follows.{MemoryFollows, MemoryUntouched, ReportTold, ConfigStays}
@@ -25,24 +23,6 @@ use Rattle.seam_rules.specs.declared.Done.{Done}
 use Rattle.seam_rules.proofs.Round.{state-kept}
 
 -- ---- by an answer
-
-numbered : (k : Refusal) → ¬ (refusalNo k ≡ 0)
-numbered AlreadyBusy e = omega (arith, e)
-numbered BadIdWidth e = omega (arith, e)
-numbered NoRemoteCfgFound e = omega (arith, e)
-numbered BadConfig e = omega (arith, e)
-numbered BadNameLength e = omega (arith, e)
-numbered SourceFileNotValidUtf8 e = omega (arith, e)
-numbered DestFileNotValidUtf8 e = omega (arith, e)
-numbered PacketLimit e = omega (arith, e)
-numbered Malformed e = omega (arith, e)
-numbered CantProcessPacketType e = omega (arith, e)
-numbered UnexpectedPdu e = omega (arith, e)
-numbered OtherTransaction e = omega (arith, e)
-numbered InvalidNakPdu e = omega (arith, e)
-numbered RetransmitFull e = omega (arith, e)
-numbered FileChanged e = omega (arith, e)
-numbered OutTooSmall e = omega (arith, e)
 
 code-is : (h : Handler) (s : State) (r : Report) (a : Answer) → byAnswer h s r a .code ≡ answerNo a
 code-is h s r Accepted = refl

@@ -287,6 +287,7 @@ pub enum Refusal {
     RetransmitFull,
     FileChanged,
     OutTooSmall,
+    BurstTooLong,
 }
 
 pub enum Answer {
@@ -305,6 +306,20 @@ pub struct Stepped {
     pub answer: Answer,
     pub length: usize,
     pub events: Events,
+    pub state: State,
+}
+
+// What a step of a burst made: how many bytes of the out buffer are its PDU (0: none), and its events.
+pub struct Made {
+    pub length: usize,
+    pub events: Events,
+}
+
+// Of a burst: how many steps were made, and what each made; the places behind are blank.
+pub struct Bursted {
+    pub answer: Answer,
+    pub count: usize,
+    pub steps: [Made; 16],
     pub state: State,
 }
 
