@@ -78,6 +78,17 @@ pub bytes-append : (s t : List ℕ) → Bytes s → Bytes t → Bytes (s ++ t)
 bytes-append [] t h k = k
 bytes-append (b ∷ s) t h k = (h .0, bytes-append s t (h .1) k)
 
+-- parts of bytes are bytes
+pub bytes-take : (n : ℕ) (s : List ℕ) → Bytes s → Bytes (take n s)
+bytes-take zero s h = tt
+bytes-take (suc n) [] h = tt
+bytes-take (suc n) (b ∷ s) h = (h .0, bytes-take n s (h .1))
+
+pub bytes-drop : (n : ℕ) (s : List ℕ) → Bytes s → Bytes (drop n s)
+bytes-drop zero s h = h
+bytes-drop (suc n) [] h = tt
+bytes-drop (suc n) (b ∷ s) h = bytes-drop n s (h .1)
+
 -- ---- for the code
 
 -- a number of 64 bits has no byte above the eighth

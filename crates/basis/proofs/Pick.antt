@@ -2,7 +2,8 @@
 -- A ruleset is given to `search`; the laws are tried backwards, from `r ≡ pick ..`.
 -- Assumes nothing.
 use mathlib.Core.Path.{_≡_, refl, sym, ap, subst, _∙_}
-use mathlib.Core.Bool.{Bool, true, false, false≢true}
+use mathlib.Core.Logic.{_⊎_, inl, inr}
+use mathlib.Core.Bool.{Bool, true, false, true≢false, false≢true}
 use Prim.Native.Nat.{ℕ, _<_, _≤_}
 use native.Mathlib.Omega.{arith}
 use lib.Dec.{ltb, leb, eqb}
@@ -26,10 +27,29 @@ pub denied : (b : Bool) → not b ≡ true → b ≡ false
 denied true e = absurd (false≢true e)
 denied false e = refl
 
+pub granted : (b : Bool) → not b ≡ false → b ≡ true
+granted true e = refl
+granted false e = absurd (true≢false e)
+
 -- two tests that both hold
 pub both : (a b : Bool) → (a and b) ≡ true → (a ≡ true) × (b ≡ true)
 both true b e = (refl, e)
 both false b e = absurd (false≢true e)
+
+-- .. the first of them denied
+pub but : (a b : Bool) → (not a and b) ≡ true → (a ≡ false) × (b ≡ true)
+but true b e = absurd (false≢true e)
+but false b e = (refl, e)
+
+-- neither holds
+pub neither : (a b : Bool) → (a or b) ≡ false → (a ≡ false) × (b ≡ false)
+neither true b e = absurd (true≢false e)
+neither false b e = (refl, e)
+
+-- not both hold
+pub one-fails : (a b : Bool) → (a and b) ≡ false → (a ≡ false) ⊎ (b ≡ false)
+one-fails true b e = inr e
+one-fails false b e = inl refl
 
 -- one that holds wherever the other does
 pub wherever : (a b : Bool) → (a ≡ true → b ≡ true) → (not a or b) ≡ true

@@ -1,7 +1,7 @@
 -- What is due applies: each test of the decision gives its item's condition.
 -- Assumes nothing.
 use mathlib.Core.Path.{_≡_, refl}
-use mathlib.Core.Logic.{_⊎_, inl, inr}
+use mathlib.Core.Logic.{inl, inr}
 use mathlib.Core.Bool.{Bool, true, false}
 use Prim.Native.Nat.{ℕ, _+_}
 use native.Mathlib.Omega.{arith}
@@ -9,17 +9,13 @@ use borrow.Author.Tests.{eqb-true, eqb-false, leb-true, leb-false, ltb-true, ltb
 use lib.Dec.{eqb, leb, ltb}
 use lib.ListN.{getD}
 use Rattle.basis.specs.Pick.{pick, _and_}
-use Rattle.basis.proofs.Pick.{both, cases}
+use Rattle.basis.proofs.Pick.{both, one-fails, cases}
 use Rattle.rules.specs.Step.{actionFor, faultDue, ackExpired, checkExpired, dueAt, eofOwed, dueOf}
 use Rattle.rules.specs.Says.{Free, Declared, cancels, ignores, abandons, once-cancelled, Applies, item-1, item-2, item-3, item-4, item-5, item-6-again, item-6-fault, item-7, item-8, item-9, DueApplies}
 use Rattle.types.specs.declared.State.{State}
 use Rattle.types.specs.declared.TransactionStep.{TransactionStep}
 use Rattle.types.specs.declared.TransactionStep.the-variants.{Idle, SendingMetadata, SendingFileData, SendingEof, WaitingForEofAck, WaitingForFinished, Closing}
 use Rattle.types.specs.declared.Due.the-variants.{CancelEof, Repair, EofAgain, FaultCancel, FaultIgnore, FaultAbandon, Nothing}
-
-one-fails : (a b : Bool) → (a and b) ≡ false → (a ≡ false) ⊎ (b ≡ false)
-one-fails true b e = inr e
-one-fails false b e = inl refl
 
 declared : (s : State) (c : ℕ) → Declared s c (faultDue s c)
 unfolding faultDue actionFor

@@ -2,7 +2,7 @@
 -- that the put's arguments say.
 -- Assumes nothing.
 use mathlib.Core.Path.{_≡_, refl, sym, _∙_}
-use mathlib.Core.Bool.{Bool, true, false, false≢true}
+use mathlib.Core.Bool.{true, false}
 use mathlib.Core.List.{List}
 use Prim.Native.Nat.{ℕ, _+_, _-_, _*_, _^_, _≤_, _<_}
 use native.Mathlib.Nat.{lt-of-lt-of-le}
@@ -11,10 +11,10 @@ use lib.Dec.{eqb, leb, ltb}
 use lib.ListN.{length, take, replicate}
 use lib.Pow.{pow-mono}
 use lib.Seq.{take-append-seam}
-use borrow.Author.Tests.{eqb-true, eqb-false, leb-true, ltb-true, ltb-false, le-ltb}
-use Rattle.basis.specs.Pick.{pick, _and_, not}
+use borrow.Author.Tests.{eqb-false, leb-true, ltb-true, ltb-false, le-ltb}
+use Rattle.basis.specs.Pick.{_and_, not}
 use Rattle.basis.specs.Bytes.{Bytes}
-use Rattle.basis.proofs.Pick.{cases}
+use Rattle.basis.proofs.Pick.{both, but, cases}
 use Rattle.rules_pdu.specs.Numbers.{goodWidth, fits, larger, H, F, C, segmentLength}
 use Rattle.rules_pdu.specs.Layout.{metadata, pduLength}
 use Rattle.rules_pdu.specs.PduLaws.{Fit}
@@ -35,18 +35,11 @@ use Rattle.rules_leaves.proofs.Sums.{sum-lt}
 use Rattle.rules_pdu.proofs.Round.{size-fits}
 use Rattle.rules.proofs.Pending.{orderly-empty}
 use Rattle.rules.proofs.Outcomes.{passed, answer-by, state-by, passed-not}
+use Rattle.rules.proofs.PutExactly.{tells-type, type-small}
 use Rattle.rules.proofs.Hold.{Inv}
 use Rattle.rules.proofs.Stream.{Carries}
 
 -- ---- the conditions that passed
-
-both : (a b : Bool) → pick a b false ≡ true → (a ≡ true) × (b ≡ true)
-both true b e = (refl, e)
-both false b e = absurd (false≢true e)
-
-neither : (a b : Bool) → not a and b ≡ true → (a ≡ false) × (b ≡ true)
-neither true b e = absurd (false≢true e)
-neither false b e = (refl, e)
 
 pub record Passed (h : State) (c : LocalEntityConfig) (q : PutRequest) (source destination : List ℕ) (S : ℕ) : Type 0 where
   pub state-is : putSpec h c q source destination S .state ≡ putState h c q source destination S
@@ -120,14 +113,6 @@ head-fit c e q n S i =
 
 -- ---- 4, 5 and 8: the entry, the names, L
 
-known-small : (t : ℕ) → knownType t ≡ true → t < 16
-unfolding knownType
-known-small t =
-    let P : Bool → Type 0 = λ (b : Bool). b ≡ true → t < 16 in
-    cases P (eqb t 0) _ _ (λ e h. let z = eqb-true t 0 e in omega arith)
-    (λ n. cases P (eqb t 2) _ _ (λ e h. let z = eqb-true t 2 e in omega arith)
-    (λ n. cases P (eqb t 3) _ _ (λ e h. let z = eqb-true t 3 e in omega arith) (λ n h. let z = eqb-true t 15 h in omega arith)))
-
 pub record Entry (e : RemoteEntityConfig) : Type 0 where
   pub packet : e .maxpacket ≤ 4096
   pub segment : 0 < e .maxsegment
@@ -137,15 +122,15 @@ pub entry-good : (e : RemoteEntityConfig) (actions : List ℕ) → goodConfig e 
 unfolding goodConfig goodEntry
 entry-good e actions g =
     let p = both (goodEntry e) (allKnown actions) g in
-    let r = neither (ltb 4096 (e .maxpacket)) (not (eqb (e .maxsegment) 0) and knownType (e .checksum)) (p .0) in
-    let k = neither (eqb (e .maxsegment) 0) (knownType (e .checksum)) (r .1) in
+    let r = but (ltb 4096 (e .maxpacket)) (not (eqb (e .maxsegment) 0) and knownType (e .checksum)) (p .0) in
+    let k = but (eqb (e .maxsegment) 0) (knownType (e .checksum)) (r .1) in
     let n = eqb-false (e .maxsegment) 0 (k .0) in
-    record { packet = ltb-false 4096 (e .maxpacket) (r .0); segment = omega arith; type = known-small (e .checksum) (k .1) }
+    record { packet = ltb-false 4096 (e .maxpacket) (r .0); segment = omega arith; type = type-small (e .checksum) (tells-type (e .checksum) .yes (k .1)) }
 
 name-length : (n : ℕ) → goodLength n ≡ true → (0 < n) × (n ≤ 255)
 unfolding goodLength
 name-length n g =
-    let p = neither (eqb n 0) (leb n 255) g in
+    let p = but (eqb n 0) (leb n 255) g in
     let z = eqb-false n 0 (p .0) in
     let l = leb-true n 255 (p .1) in
     (omega arith, l)

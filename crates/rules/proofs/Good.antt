@@ -12,6 +12,7 @@ use lib.ListN.{length, take}
 use Rattle.basis.specs.Pick.{pick, _and_, not}
 use Rattle.basis.specs.Bytes.{Bytes}
 use Rattle.basis.proofs.Pick.{both, cases}
+use Rattle.basis.proofs.Bytes.{bytes-take}
 use Rattle.rules.specs.States.{toStep, withQueue, withMarks, counted, emptyQueue, idle, stepNo}
 use Rattle.rules.specs.Queues.{served}
 use Rattle.rules.specs.Step.{actionFor, faultDue, ackExpired, checkExpired, dueAt, eofOwed, dueOf, eofFor, cancelEof, nextLength, awaiting, afterCancelEof, afterMetadata, onward, afterData, afterEof, faultMarked, afterOf, changed, bytesDue, performed, stepSpec}
@@ -38,7 +39,7 @@ use Rattle.rules.proofs.Singly.{burst-keeps}
 use Rattle.rules.proofs.GoodQueue.{good-empty, good-on, served-good}
 use Rattle.rules.proofs.GoodMarks.{good-noMarks, good-counted, good-settled, good-marked}
 use Rattle.rules.proofs.GoodPut.{put-good}
-use Rattle.rules.proofs.GoodDeliver.{bytes-take, deliver-good}
+use Rattle.rules.proofs.GoodDeliver.{deliver-good}
 
 -- ---- Idle
 

@@ -7,9 +7,10 @@ use mathlib.Core.List.{List, [], _∷_}
 use Prim.Native.Nat.{ℕ, zero, suc, _+_, _-_, _*_, _/_, _%_, _<_}
 use native.Mathlib.Omega.{arith}
 use lib.Dec.{eqb, ltb}
-use lib.ListN.{length, getD, take, drop}
+use lib.ListN.{length, getD, drop}
 use Rattle.basis.specs.Bytes.{Bytes, part, byte}
-use Rattle.basis.proofs.Pick.{cases}
+use Rattle.basis.proofs.Pick.{neither, cases}
+use Rattle.basis.proofs.Bytes.{bytes-take, bytes-drop}
 use Rattle.rules_pdu.specs.Numbers.{F}
 use Rattle.rules_pdu.specs.Reading.{hIn, wellFramed, bodyEnd, frameIn, bodyIn, reserved, areTlvs, finishedParams, finishedIn, ackIn, nakIn, keepAliveIn, directiveIn, directed, bodyOf}
 use Rattle.rules.specs.Refusals.{byAnswer}
@@ -32,23 +33,13 @@ use Rattle.types.specs.declared.TransactionStep.{TransactionStep}
 use Rattle.types.specs.declared.TransactionStep.the-variants.{Idle, SendingMetadata, SendingFileData, SendingEof, WaitingForEofAck, WaitingForFinished, Closing}
 use Rattle.types.specs.declared.Answer.{Answer}
 use Rattle.types.specs.declared.Answer.the-variants.{Accepted, Refused}
-use Rattle.rules.proofs.Tells.{neither, tells-step}
+use Rattle.rules.proofs.Tells.{tells-step}
 use Rattle.rules.proofs.Outcomes.{Taken, taken}
 use Rattle.rules.proofs.Table.{verdict-nak, verdict-ack, verdict-finished, verdict-keep}
 use Rattle.rules.proofs.GoodQueue.{good-empty, all-good}
 use Rattle.rules.proofs.GoodMarks.{good-settled, good-told}
 
 -- ---- bytes
-
-pub bytes-take : (n : ℕ) (s : List ℕ) → Bytes s → Bytes (take n s)
-bytes-take zero s h = tt
-bytes-take (suc n) [] h = tt
-bytes-take (suc n) (b ∷ s) h = (h .0, bytes-take n s (h .1))
-
-bytes-drop : (n : ℕ) (s : List ℕ) → Bytes s → Bytes (drop n s)
-bytes-drop zero s h = h
-bytes-drop (suc n) [] h = tt
-bytes-drop (suc n) (b ∷ s) h = bytes-drop n s (h .1)
 
 byte-lt : (s : List ℕ) (i : ℕ) → Bytes s → getD s i 0 < 256
 byte-lt [] i h = omega arith

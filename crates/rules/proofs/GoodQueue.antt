@@ -10,14 +10,13 @@ use borrow.Author.Tests.{leb-false, ltb-false, lt-ltb}
 use lib.Dec.{leb, ltb}
 use lib.ListN.{length, getD, take, drop, set, replicate, length-append, length-drop, length-set, replicate-append-replicate}
 use lib.Seq.{take-suc-set, drop-set-lt, drop-drop, drop-append-le}
-use Rattle.basis.proofs.Pick.{cases}
+use Rattle.basis.proofs.Pick.{neither, cases}
 use Rattle.rules.specs.States.{blank, emptyQueue}
 use Rattle.rules.specs.Queues.{pending, isMetadata, owes, invalid, anyInvalid, owing, push, pushOwed, pushAll, oldest, pop, served}
 use Rattle.rules.specs.Good.{AllOwe, GoodQueue}
 use Rattle.types.specs.declared.SegmentRequest.{SegmentRequest}
 use Rattle.types.specs.declared.Queue.{Queue}
 use Rattle.rules.proofs.Pending.{pending-first}
-use Rattle.rules.proofs.Tells.{neither}
 
 pub good-empty : (p : ℕ) → GoodQueue p emptyQueue
 unfolding pending

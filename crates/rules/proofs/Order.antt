@@ -7,10 +7,10 @@ use mathlib.Core.List.{List, [], _∷_}
 use Prim.Native.Nat.{ℕ}
 use borrow.Author.Tests.{eqb-false}
 use lib.Dec.{eqb}
-use Rattle.basis.specs.Pick.{pick}
-use Rattle.basis.proofs.Pick.{both}
+use Rattle.basis.specs.Pick.{pick, _and_, not}
+use Rattle.basis.proofs.Pick.{denied, both, but}
 use Rattle.rules.specs.Exactly.{Rule, _when_, After, Exactly, NoneOf}
-use Rattle.rules.proofs.Tells.{Tells, but}
+use Rattle.rules.proofs.Tells.{Tells}
 use Rattle.rules.specs.Refusals.{refusalNo, answerNo}
 use Rattle.types.specs.declared.Refusal.{Refusal}
 use Rattle.types.specs.declared.Answer.{Answer}
@@ -31,12 +31,12 @@ Free k ((j when P) ∷ rs) = (¬ (k ≡ j)) × Free k rs
 
 -- the same as a test, and that all numbers differ
 abbrev free : ℕ → List Rule → Bool
-free k [] = pick (eqb k 0) false true
-free k ((j when P) ∷ rs) = pick (eqb k j) false (free k rs)
+free k [] = not (eqb k 0)
+free k ((j when P) ∷ rs) = not (eqb k j) and free k rs
 
 abbrev pub distinct : List Rule → Bool
 distinct [] = true
-distinct ((k when P) ∷ rs) = pick (free k rs) (distinct rs) false
+distinct ((k when P) ∷ rs) = free k rs and distinct rs
 
 -- ---- a cascade
 
@@ -65,7 +65,7 @@ there k P rs n p r = record { is = inr (p, r .is) }
 -- ---- from the first to exactly
 
 free-is : (k : ℕ) (rs : List Rule) → free k rs ≡ true → Free k rs
-free-is k [] e = eqb-false k 0 (but (eqb k 0) true e .0)
+free-is k [] e = eqb-false k 0 (denied (eqb k 0) e)
 free-is k ((j when P) ∷ rs) e =
     let d = but (eqb k j) (free k rs) e in
     (eqb-false k j (d .0), free-is k rs (d .1))

@@ -7,6 +7,7 @@ use Prim.Native.Nat.{ℕ, _≤_, _<_}
 use native.Mathlib.Omega.{arith}
 use lib.Dec.{ltb}
 use Rattle.basis.specs.Pick.{pick, _and_, _or_, not}
+use Rattle.basis.proofs.Pick.{neither}
 use Rattle.rules_pdu.specs.Reading.{headIn, wellFramed, frameIn, framedIn, bodyIn, bodyOf}
 use Rattle.rules.specs.Refusals.{refused, accepted, byAnswer}
 use Rattle.rules.specs.States.{isIdle}
@@ -32,7 +33,6 @@ use Rattle.types.specs.declared.Answer.{Answer}
 use Rattle.types.specs.declared.Answer.the-variants.{Accepted, Refused}
 use Rattle.types.specs.declared.Done.{Done}
 use Rattle.types.specs.declared.Cancelled.{Cancelled}
-use Rattle.rules.proofs.Tells.{neither}
 use Rattle.rules.proofs.Tiles.{Within}
 use Rattle.rules.proofs.Pending.{Orderly, answers-within, all-answers, orderly-all}
 

@@ -61,6 +61,12 @@ pub tells-type : (t : ℕ) → Tells (knownType t) (KnownType t)
 unfolding knownType
 tells-type t = search tests depth 8
 
+pub type-small : (t : ℕ) → KnownType t → t < 16
+type-small t (inl e) = omega arith
+type-small t (inr (inl e)) = omega arith
+type-small t (inr (inr (inl e))) = omega arith
+type-small t (inr (inr (inr e))) = omega arith
+
 tells-action : (a : ℕ) → Tells (knownAction a) ((a ≡ 1) ⊎ (a ≡ 3) ⊎ (a ≡ 4))
 unfolding knownAction
 tells-action a = search tests depth 8

@@ -13,7 +13,7 @@ use lib.ListN.{length, take, length-map}
 use lib.Seq.{take-all}
 use borrow.Author.Tests.{ltb-true, ltb-false}
 use Rattle.basis.specs.Pick.{pick}
-use Rattle.basis.proofs.Pick.{cases}
+use Rattle.basis.proofs.Pick.{neither, cases}
 use Rattle.rules_pdu.specs.Decoding.{decode}
 use Rattle.rules.specs.Refusals.{refused, accepted}
 use Rattle.rules.specs.States.{isIdle, withQueue, emptyQueue, idle}
@@ -46,7 +46,6 @@ use Rattle.types.specs.declared.Answer.the-variants.{Accepted}
 use Rattle.types.specs.declared.Done.{Done}
 use Rattle.types.specs.declared.Stepped.{Stepped}
 use Rattle.rules.proofs.Singly.{run, end, LendsAll, singly, as-run, as-end, as-lends}
-use Rattle.rules.proofs.Tells.{neither}
 use Rattle.rules.proofs.Tiles.{length-answers}
 use Rattle.rules.proofs.Pending.{pending-none, Orderly, orderly-empty, orderly-more, served-answers, orderly-served}
 use Rattle.rules.proofs.Outcomes.{differ, put-by, cancel-by, delivered-by, nak-adds, Taken}

@@ -14,7 +14,8 @@ use lib.Seq.{take-all}
 use Rattle.basis.specs.Pick.{pick, _and_, _or_, not}
 use Rattle.basis.specs.Bytes.{Bytes}
 use Rattle.basis.specs.Laid.{inFront}
-use Rattle.basis.proofs.Pick.{cases, flag-lt}
+use Rattle.basis.proofs.Pick.{granted, cases, flag-lt}
+use Rattle.basis.proofs.Bytes.{bytes-take}
 use Rattle.basis.proofs.Laid.{front, in-front, taken}
 use Rattle.rules_leaves.specs.Checksum.{sumOf}
 use Rattle.rules_leaves.proofs.Sums.{sum-lt}
@@ -28,7 +29,6 @@ use Rattle.rules.specs.States.{idle}
 use Rattle.rules.specs.Queues.{pending, isMetadata, owes, oldest, pop}
 use Rattle.rules.specs.Step.{dueOf, eofFor, repairOf, closing, closureBit, sendingOf, bytesFor, bytesDue, eventsOf, afterOf, changed, performed, stepSpec, stepBytes}
 use Rattle.rules.specs.Good.{AllOwe, GoodQueue, GoodName, Under, At, Good}
-use Rattle.rules.specs.Exactly.{KnownType}
 use Rattle.rules.specs.Says.{bytesOf, NoneOwed, Declared, cancels, ignores, abandons, once-cancelled, Applies, item-1, item-2, item-3, item-4, item-5, item-6-again, item-6-fault, item-7, item-8, item-9, eofOfSent, itsMetadata, bytesAt, answerTo, named, pduOf, DueSays, IsEof, StepEmits}
 use Rattle.types.specs.declared.Head.{Head}
 use Rattle.types.specs.declared.SegmentRequest.{SegmentRequest}
@@ -42,13 +42,9 @@ use Rattle.types.specs.declared.Answer.the-variants.{Accepted}
 use Rattle.types.specs.declared.Stepped.{Stepped}
 use Rattle.rules.proofs.Pending.{Formed, pending-first}
 use Rattle.rules.proofs.Good.{under}
-use Rattle.rules.proofs.GoodDeliver.{bytes-take}
+use Rattle.rules.proofs.PutExactly.{type-small}
 use Rattle.rules.proofs.Makes.{refused≢accepted}
 use Rattle.rules.proofs.Applies.{due-applies}
-
-granted : (b : Bool) → not b ≡ false → b ≡ true
-granted true e = refl
-granted false e = absurd (true≢false e)
 
 -- the file is lent whole while its EOF is due
 pub lent-whole : (s : State) (file : List ℕ) → changed s (length file) ≡ false → s .step ≡ SendingEof → take (s .fixed .size) file ≡ file
@@ -70,12 +66,6 @@ decode-written h none c = refl
 decode-written h (some m) c = round-trip h m (c .0) (c .1)
 
 -- ---- in a good state each PDU can be said
-
-type-small : (t : ℕ) → KnownType t → t < 16
-type-small t (inl e) = omega arith
-type-small t (inr (inl e)) = omega arith
-type-small t (inr (inr (inl e))) = omega arith
-type-small t (inr (inr (inr e))) = omega arith
 
 name-small : (array : List ℕ) (n : ℕ) → GoodName array n → length (take n array) < 256
 name-small array n g = let m = g .most in rw (length-take n array) (omega arith)

@@ -9,7 +9,7 @@ use native.Mathlib.Nat.{not-le-of-lt}
 use borrow.Author.Tests.{ltb-true, ltb-false, leb-true, leb-false, eqb-true, eqb-false}
 use lib.Dec.{eqb, leb, ltb}
 use lib.ListN.{getD}
-use Rattle.basis.specs.Pick.{pick, _and_, _or_, not}
+use Rattle.basis.specs.Pick.{_and_, _or_, not}
 use Rattle.rules.specs.States.{isIdle, stepNo}
 use Rattle.types.specs.declared.TransactionStep.{TransactionStep}
 use Rattle.types.specs.declared.TransactionStep.the-variants.{Idle, SendingMetadata, SendingFileData, SendingEof, WaitingForEofAck, WaitingForFinished, Closing}
@@ -104,16 +104,6 @@ fails-iff {b = false} p = (p .yes, λ h. refl)
 pub iff-tells : {b : Bool} {P : Type 0} → (b ≡ true) ↔ P → Tells b P
 iff-tells {b = true} i = record { yes = i .0; no = λ e. absurd (true≢false e) }
 iff-tells {b = false} i = record { yes = i .0; no = λ e h. false≢true (i .1 h) }
-
--- ---- a joined test taken apart
-
-pub but : (b c : Bool) → pick b false c ≡ true → (b ≡ false) × (c ≡ true)
-but true c e = absurd (false≢true e)
-but false c e = (refl, e)
-
-pub neither : (b c : Bool) → pick b true c ≡ false → (b ≡ false) × (c ≡ false)
-neither true c e = absurd (true≢false e)
-neither false c e = (refl, e)
 
 -- ---- where a state stands
 

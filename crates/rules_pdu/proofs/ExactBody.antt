@@ -14,7 +14,7 @@ use borrow.Author.Tests.{eqb-true, ltb-false}
 use Rattle.basis.specs.Pick.{pick}
 use Rattle.basis.specs.Bytes.{be, num, part, byte, numAt, Bytes}
 use Rattle.basis.proofs.Pick.{cases}
-use Rattle.basis.proofs.Bytes.{be-num, num-lt}
+use Rattle.basis.proofs.Bytes.{be-num, num-lt, bytes-take, bytes-drop}
 use Rattle.rules_pdu.specs.Fields.{wire}
 use Rattle.rules_pdu.specs.Numbers.{F}
 use Rattle.rules_pdu.specs.Layout.{ackFinished, finished, ackEof, nak, keepAlive, layout, layoutHeard, tlvFields, requestFields}
@@ -104,16 +104,6 @@ comes large b _ (ofFinished c t k l r e) =
 comes large b _ (unread code rest k e) = rw (ap (λ (l : List ℕ). byte l 0) (sym e)) (code-unread large b k)
 
 -- ---- what a body comes to, the layouts give
-
-pub bytes-take : (w : ℕ) (s : List ℕ) → Bytes s → Bytes (take w s)
-bytes-take zero s y = tt
-bytes-take (suc w) [] y = tt
-bytes-take (suc w) (b ∷ s) y = (y .0, bytes-take w s (y .1))
-
-pub bytes-drop : (w : ℕ) (s : List ℕ) → Bytes s → Bytes (drop w s)
-bytes-drop zero s y = y
-bytes-drop (suc w) [] y = tt
-bytes-drop (suc w) (b ∷ s) y = bytes-drop w s (y .1)
 
 bytes-behind : (a s : List ℕ) → Bytes (a ++ s) → Bytes s
 bytes-behind [] s y = y

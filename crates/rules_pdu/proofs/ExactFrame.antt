@@ -12,6 +12,7 @@ use borrow.Author.Tests.{eqb-true, ltb-false}
 use Rattle.basis.specs.Pick.{_and_, not, flag}
 use Rattle.basis.specs.Bytes.{be, num, part, byte, numAt, Bytes}
 use Rattle.basis.proofs.Pick.{denied, both, cases}
+use Rattle.basis.proofs.Bytes.{bytes-drop}
 use Rattle.rules_pdu.specs.Fields.{Field, nat, raw, wire}
 use Rattle.rules_pdu.specs.Numbers.{goodWidth, H, C}
 use Rattle.rules_leaves.specs.Checksum.{crc16}
@@ -24,7 +25,7 @@ use Rattle.types.specs.declared.Framed.{Framed}
 use Rattle.types.specs.declared.Framed.the-variants.{Malformed, Whole}
 use Rattle.rules_pdu.proofs.Places.{wire-append}
 use Rattle.rules_pdu.proofs.Round.{headWith, Frames, good-range, last-two, filedata-read, tosender-read, head-read, h-read, body-end-read, body-read, well-framed-read}
-use Rattle.rules_pdu.proofs.ExactBody.{bytes-drop, number}
+use Rattle.rules_pdu.proofs.ExactBody.{number}
 
 -- ---- a PDU is read as it stands
 

@@ -14,7 +14,7 @@ use borrow.Author.Tests.{eqb-true, leb-true}
 use Rattle.basis.specs.Pick.{pick, _and_, not}
 use Rattle.basis.specs.Bytes.{be, num, part, byte, numAt, Bytes}
 use Rattle.basis.proofs.Pick.{denied, both, cases}
-use Rattle.basis.proofs.Bytes.{be-num, num-lt, byte-num}
+use Rattle.basis.proofs.Bytes.{be-num, num-lt, bytes-take, bytes-drop, byte-num}
 use Rattle.rules_pdu.specs.Fields.{Field, nat, raw, wire}
 use Rattle.rules_pdu.specs.Numbers.{F, C}
 use Rattle.rules_pdu.specs.Layout.{Said, ackFinished, layout, isFileData, Pdu}
@@ -26,7 +26,6 @@ use Rattle.types.specs.declared.Frame.{Frame}
 use Rattle.rules_pdu.proofs.Places.{At, at-start}
 use Rattle.rules_pdu.proofs.Round.{body-read, decode-read, said-read}
 use Rattle.rules_pdu.proofs.Heard.{one-byte}
-use Rattle.rules_pdu.proofs.ExactBody.{bytes-take, bytes-drop}
 use Rattle.rules_pdu.proofs.Unjudged.{said-spare}
 use Rattle.rules_pdu.proofs.ExactFrame.{frames, tests, flag-bit, some-pdu}
 

@@ -2,21 +2,18 @@
 -- Assumes nothing.
 use mathlib.Core.Path.{_≡_, refl}
 use mathlib.Core.Logic.{_↔_, _⊎_, inl, inr}
-use mathlib.Core.Bool.{Bool, true, false, false≢true}
+use mathlib.Core.Bool.{Bool, true, false}
 use Prim.Native.Nat.{ℕ, _+_, _-_, _*_, _^_, _<_, _≤_, min}
 use native.Mathlib.Nat.{mod-self, mod-eq-of-lt, min-eq-left, min-eq-right}
 use native.Mathlib.Omega.{arith}
 use lib.Dec.{ltb, leb}
 use borrow.Author.Tests.{ltb-true, ltb-false, lt-ltb, leb-true, leb-false}
 use Rattle.basis.specs.Pick.{pick}
+use Rattle.basis.proofs.Pick.{both}
 use Rattle.rules_pdu.specs.Numbers.{goodWidth, fits, larger, numberAfter, H, F, C, isLarge, segmentLength}
 use Rattle.rules_pdu.specs.NumberLaws.{NumbersExactly}
 use Rattle.types.specs.declared.Head.{Head}
 use Rattle.rules_pdu.proofs.Round.{widths-exactly}
-
-both : (a b : Bool) → pick a b false ≡ true → (a ≡ true) × (b ≡ true)
-both true b e = (refl, e)
-both false b e = absurd (false≢true e)
 
 fitting-is : (w v : ℕ) → (fits w v ≡ true) ↔ (((w ≡ 1) ⊎ (w ≡ 2) ⊎ (w ≡ 4) ⊎ (w ≡ 8)) × (v < 2 ^ (8 * w)))
 unfolding fits

@@ -1,34 +1,25 @@
 -- The first three tests of a put: what comes behind them, and that an accepted put has a sequence number of a good width.
 -- Assumes nothing.
-use mathlib.Core.Path.{_≡_, refl}
-use mathlib.Core.Bool.{Bool, true, false}
+use mathlib.Core.Path.{_≡_}
+use mathlib.Core.Bool.{true, false}
 use mathlib.Core.List.{List}
 use Prim.Native.Nat.{ℕ, _*_, _^_}
-use native.Mathlib.Omega.{arith}
 use lib.Dec.{ltb}
-use Rattle.basis.specs.Pick.{pick, _and_, not}
+use Rattle.basis.specs.Pick.{_and_}
+use Rattle.basis.proofs.Pick.{both}
 use Rattle.rules_pdu.specs.Numbers.{goodWidth, fits}
 use Rattle.rules.specs.States.{isIdle}
 use Rattle.rules.specs.Put.{idsFit, isFound, entryOf, headOf, putAnswer}
+use Rattle.rules.proofs.Outcomes.{passed-not}
 use Rattle.source_put.specs.Entry.{entryAnswer}
 use Rattle.types.specs.declared.State.{State}
 use Rattle.types.specs.declared.EntityId.{EntityId}
 use Rattle.types.specs.declared.TransactionSeqNum.{TransactionSeqNum}
 use Rattle.types.specs.declared.LocalEntityConfig.{LocalEntityConfig}
 use Rattle.types.specs.declared.PutRequest.{PutRequest}
-use Rattle.types.specs.declared.Refusal.{Refusal}
 use Rattle.types.specs.declared.Refusal.the-variants.{NoRemoteCfgFound}
 use Rattle.types.specs.declared.Answer.{Answer}
 use Rattle.types.specs.declared.Answer.the-variants.{Accepted, Refused}
-
--- an accepted put has passed its first test
-passed : (b : Bool) (a : Answer) (r : Refusal) → pick (not b) (Refused r) a ≡ Accepted → (b ≡ true) × (a ≡ Accepted)
-passed true a r e = (refl, e)
-passed false a r e = let z : _≡_ {A = ℕ} 0 1 = cc in absurd (omega arith)
-
-both : (b d : Bool) → pick b d false ≡ true → (b ≡ true) × (d ≡ true)
-both true d e = (refl, e)
-both false d e = let z : _≡_ {A = ℕ} 0 1 = cc in absurd (omega arith)
 
 fits-width : (w v : ℕ) → fits w v ≡ true → goodWidth w ≡ true
 unfolding fits
@@ -60,5 +51,5 @@ module _ (s : State) (c : LocalEntityConfig) (q : PutRequest) (source destinatio
   pub number-width : putAnswer s c q source destination S ≡ Accepted → goodWidth (s .number .0) ≡ true
   unfolding putAnswer
   number-width e =
-      let p = passed (isIdle (s .step)) _ _ e in
-      ids-width (c .id) (q .destination) (s .number) (passed (idsFit (c .id) (q .destination) (s .number)) _ _ (p .1) .0)
+      let p = passed-not (isIdle (s .step)) _ _ e in
+      ids-width (c .id) (q .destination) (s .number) (passed-not (idsFit (c .id) (q .destination) (s .number)) _ _ (p .1) .0)

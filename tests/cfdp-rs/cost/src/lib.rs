@@ -20,6 +20,10 @@ use spacepackets::{
 };
 use std::{cell::Cell, hint::black_box};
 
+#[macro_use]
+#[path = "../../uncalled.rs"]
+mod uncalled;
+
 const SIZE: usize = 64000;
 
 thread_local! {
@@ -68,30 +72,7 @@ impl UserFaultHook for Hook {
 /// One file in memory.
 struct Store(Vec<u8>);
 impl VirtualFilestore for Store {
-    fn create_file(&self, _: &str) -> Result<(), FilestoreError> {
-        Err(FilestoreError::Other)
-    }
-    fn remove_file(&self, _: &str) -> Result<(), FilestoreError> {
-        Err(FilestoreError::Other)
-    }
-    fn truncate_file(&self, _: &str) -> Result<(), FilestoreError> {
-        Err(FilestoreError::Other)
-    }
-    fn remove_dir(&self, _: &str, _: bool) -> Result<(), FilestoreError> {
-        Err(FilestoreError::Other)
-    }
-    fn create_dir(&self, _: &str) -> Result<(), FilestoreError> {
-        Err(FilestoreError::Other)
-    }
-    fn write_data(&self, _: &str, _: u64, _: &[u8]) -> Result<(), FilestoreError> {
-        Err(FilestoreError::Other)
-    }
-    fn filename_from_full_path(path: &str) -> Option<&str> {
-        Some(path)
-    }
-    fn file_name<'a>(&self, p: &'a str) -> Result<Option<&'a str>, FilestoreError> {
-        Ok(Some(p))
-    }
+    uncalled!();
     fn read_data(&self, _: &str, offset: u64, n: u64, buf: &mut [u8]) -> Result<(), FilestoreError> {
         let (from, n) = (offset as usize, n as usize);
         buf[..n].copy_from_slice(&self.0[from..from + n]);

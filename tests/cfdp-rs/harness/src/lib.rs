@@ -38,6 +38,10 @@ use std::{
     panic::{AssertUnwindSafe, catch_unwind},
 };
 
+#[macro_use]
+#[path = "../../uncalled.rs"]
+mod uncalled;
+
 thread_local! {
     /// Rises with each `expire`: a timer that was started before it is expired.
     static CLOCK: Cell<u64> = const { Cell::new(0) };
@@ -142,30 +146,7 @@ struct OneFile {
     native: NativeFilestore,
 }
 impl VirtualFilestore for OneFile {
-    fn create_file(&self, _: &str) -> Result<(), FilestoreError> {
-        Err(FilestoreError::Other)
-    }
-    fn remove_file(&self, _: &str) -> Result<(), FilestoreError> {
-        Err(FilestoreError::Other)
-    }
-    fn truncate_file(&self, _: &str) -> Result<(), FilestoreError> {
-        Err(FilestoreError::Other)
-    }
-    fn remove_dir(&self, _: &str, _: bool) -> Result<(), FilestoreError> {
-        Err(FilestoreError::Other)
-    }
-    fn create_dir(&self, _: &str) -> Result<(), FilestoreError> {
-        Err(FilestoreError::Other)
-    }
-    fn write_data(&self, _: &str, _: u64, _: &[u8]) -> Result<(), FilestoreError> {
-        Err(FilestoreError::Other)
-    }
-    fn filename_from_full_path(path: &str) -> Option<&str> {
-        Some(path)
-    }
-    fn file_name<'a>(&self, p: &'a str) -> Result<Option<&'a str>, FilestoreError> {
-        Ok(Some(p))
-    }
+    uncalled!();
     fn read_data(&self, _: &str, o: u64, n: u64, buf: &mut [u8]) -> Result<(), FilestoreError> {
         self.native.read_data(&self.path, o, n, buf)
     }
