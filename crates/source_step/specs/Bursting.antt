@@ -14,7 +14,7 @@ use Rattle.types.specs.declared.Bursted.{Bursted}
 use Rattle.types.specs.declared.Refusal.{Refusal}
 use Rattle.types.specs.declared.Answer.{Answer}
 use Rattle.types.specs.declared.Answer.the-variants.{Accepted, Refused}
-use Rattle.source_step.specs.declared.burst.Going.{Going}
+use Rattle.source_step.specs.declared.going.Going.{Going}
 
 -- none made, with this answer
 abbrev pub noSteps : Answer → State → Bursted
@@ -27,6 +27,10 @@ withStep b r = record { answer = b .answer; count = b .count + 1; steps = set (b
 -- how many steps are left behind one that emitted so many bytes
 abbrev pub leftOf : ℕ → ℕ → ℕ
 leftOf left n = pick (eqb n 0) 0 (left - 1)
+
+-- behind the first step of so many
+abbrev pub begun : State → Stepped → ℕ → Going
+begun s r count = record { burst = withStep (noSteps Accepted s) r; at = r .length; left = leftOf count (r .length) }
 
 abbrev pub furtherBy : Going → Stepped → Answer → Going
 furtherBy g r Accepted = record { burst = withStep (g .burst) r; at = g .at + r .length; left = leftOf (g .left) (r .length) }

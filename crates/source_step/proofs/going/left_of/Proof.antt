@@ -1,8 +1,8 @@
 -- By the length. Assumes nothing.
 use borrow.Author.Needs.{needs}
 use Rattle.basis.proofs.Pick.{picks}
-use Rattle.source_step.proofs.burst.left_of.Statement.{statement}
-use Rattle.source_step.proofs.burst.left_of.Tie as tie
+use Rattle.source_step.proofs.going.left_of.Statement.{statement}
+use Rattle.source_step.proofs.going.left_of.Tie as tie
 
 returns : tie.Need-returns
 returns c = search picks depth 4

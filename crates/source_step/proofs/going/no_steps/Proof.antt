@@ -1,7 +1,7 @@
 -- Sixteen blank places. Assumes nothing.
 use borrow.Author.Needs.{needs}
-use Rattle.source_step.proofs.burst.no_steps.Statement.{statement}
-use Rattle.source_step.proofs.burst.no_steps.Tie as tie
+use Rattle.source_step.proofs.going.no_steps.Statement.{statement}
+use Rattle.source_step.proofs.going.no_steps.Tie as tie
 
 none-made-requires : tie.Need-none-made-requires
 none-made-requires c κs = search needs

@@ -20,7 +20,7 @@ ghost use Prim.Native.Nat.{_+_, _-_, _*_, _^_, _<_, _≤_};
 ghost use lib.ListN.{length, take, drop};
 ghost use Rattle.rules.specs.Step.{stepSpec, stepBytes};
 ghost use Rattle.rules.specs.Burst.{noneMade, laidOf};
-ghost use Rattle.source_step.specs.Bursting.{noSteps, withStep, leftOf, further, burstOn};
+ghost use Rattle.source_step.specs.Bursting.{noSteps, withStep, leftOf, begun, further, burstOn};
 
 // How far a burst is: what it has made, how many bytes of the out buffer that took, and how many steps may follow.
 pub struct Going {
@@ -59,7 +59,7 @@ pub(crate) fn no_steps(a: Answer, s: State) -> Bursted
     }
 }
 
-pub(crate) fn with_step(b: Bursted, r: Stepped) -> Bursted
+fn with_step(b: Bursted, r: Stepped) -> Bursted
     requires { ⌜ b .count < 16 ⌝ }
     ensures { λ c. ⌜ c ≡ withStep b r ⌝ }
 {
@@ -81,7 +81,7 @@ pub(crate) fn with_step(b: Bursted, r: Stepped) -> Bursted
 }
 
 // A step that emitted nothing is the last.
-pub(crate) fn left_of(left: usize, n: usize) -> usize
+fn left_of(left: usize, n: usize) -> usize
     requires { ⌜ 0 < left ⌝ }
     ensures { λ r. ⌜ r ≡ leftOf left n ⌝ }
 {
@@ -89,6 +89,20 @@ pub(crate) fn left_of(left: usize, n: usize) -> usize
         return 0;
     }
     left - 1
+}
+
+// Behind the first step.
+pub(crate) fn begun(s: State, r: Stepped, count: usize) -> Going
+    requires { ⌜ 0 < count ⌝ }
+    ensures { λ g. ⌜ g ≡ begun s r count ⌝ }
+{
+    let burst = with_step(no_steps(Answer::Accepted, s), r);
+    let left = left_of(count, r.length);
+    Going {
+        burst: burst,
+        at: r.length,
+        left: left,
+    }
 }
 
 // One that is refused is not made, and ends the burst.
