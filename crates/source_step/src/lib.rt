@@ -3,6 +3,7 @@
 // After cfdp-rs 0.3.0, src/source.rs (Apache-2.0); changed, see NOTICE.
 pub mod after;
 pub mod bulk;
+pub mod burst;
 mod cancelling;
 pub mod events;
 pub mod outcome;
