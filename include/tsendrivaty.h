@@ -195,7 +195,8 @@ struct tsendrivaty_marks {
     uint8_t anomalies; /* 0 in every state that calls can reach from a new handler */
 };
 
-/* ---- The report. The CALLS write it, YOU read it after an accepted step. An accepted call of another kind clears it, a refused call leaves it.
+/* ---- The report. The CALLS write it, YOU read it after an accepted step. An accepted burst leaves that of its last step, an accepted call of another kind clears it,
+ * a refused call leaves it.
  * Each event occurs at most once in a step, and they occurred in this order: transaction, eofsent, fault, finished, timer. */
 
 struct tsendrivaty_report {
@@ -217,7 +218,7 @@ struct tsendrivaty_report {
 
 struct tsendrivaty_burst_report {
     uint64_t count;                      /* so many steps were made, 0 to 16 */
-    struct tsendrivaty_report steps[16]; /* the report of each, in order; `length` says how far the next PDU stands behind this one. Places behind `count` are zero */
+    struct tsendrivaty_report steps[16]; /* the report of each, in order; `length` says how far the next PDU stands behind this one. Places behind `count` keep what they held */
 };
 
 /* ---- The handler. Padding between fields has no meaning: no call reads it, and a call may change it. */
@@ -254,12 +255,12 @@ uint32_t tsendrivaty_deliver(struct tsendrivaty_handler *handler, const uint8_t 
 uint32_t tsendrivaty_step(struct tsendrivaty_handler *handler, const uint8_t *file, size_t file_length, uint8_t expired, uint8_t *out, size_t out_length);
 
 /* Makes up to `count` steps over the lent file in one call, 0 to 16, and lays their PDUs end to end in `out`: the first in front, each other behind the one
- * before; bytes behind the last PDU stay. The first step has `expired`, the others not. `report` says how many were made, and of each what a step's report says;
- * the handler's own report is empty then. Handler, bytes and reports are those of the same steps made one by one.
+ * before; bytes behind the last PDU stay. The first step has `expired`, the others not. `report` says how many were made, and of each what a step's report says.
+ * Handler, bytes and reports are those of the same steps made one by one; so the handler's own report is the last step's.
  * Fewer are made only so: a step that emits nothing is made, is the last, and has the length 0; a later step whose PDU does not fit the rest of `out` is not made.
  * Neither an EOF nor Idle ends a burst. An `out` of `count` times the entry's packet maximum is enough, so 65,536 bytes are for any burst.
  * Returns 0; 32 for a count above 16, tested first, in Idle too; or 30 and 31 of the first step, 31 if its PDU does not fit the whole of `out`. Those change nothing, not in
- * the report either. A count of 0 makes no step and tests nothing: it is accepted with any file and any `out`. */
+ * the report either. A count of 0 makes no step and tests nothing: it is accepted with any file and any `out`, and changes nothing but `report->count`. */
 uint32_t tsendrivaty_burst(struct tsendrivaty_handler *handler, const uint8_t *file, size_t file_length, uint8_t expired, size_t count, uint8_t *out,
                            size_t out_length, struct tsendrivaty_burst_report *report);
 

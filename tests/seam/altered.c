@@ -48,7 +48,6 @@ uint32_t tsendrivaty_step(H, SLICE, uint8_t expired, uint8_t *out, size_t room) 
 
 /* Up to sixteen steps, each with the expiry flag. */
 static uint32_t burst_of_expired(H, SLICE, size_t count, uint8_t *out, size_t room, struct tsendrivaty_burst_report *report) {
-    static const struct tsendrivaty_report none;
     size_t at = 0, k = 0;
     while (k < count) {
         uint32_t r = right_calls_step(h, p, n, 1, out + at, room - at);
@@ -58,26 +57,25 @@ static uint32_t burst_of_expired(H, SLICE, size_t count, uint8_t *out, size_t ro
         at += h->report.length;
         if (!h->report.length) break;
     }
-    for (report->count = k; k < 16; k++) report->steps[k] = none;
-    h->report = none;
+    report->count = k;
     return 0;
 }
 
 uint32_t tsendrivaty_burst(H, SLICE, uint8_t expired, size_t count, uint8_t *out, size_t room, struct tsendrivaty_burst_report *report) {
     if (IS(23) && expired && count <= 16) return burst_of_expired(h, p, n, count, out, room, report);
     if (IS(15) && !count && h->step != TSENDRIVATY_IDLE && n != h->transaction.size) return TSENDRIVATY_FILE_CHANGED;
-    const struct tsendrivaty_burst_report before = *report;
+    static const struct tsendrivaty_report none;
     uint32_t r = right_calls_burst(h, p, n, expired, IS(13) && count == 17 ? 16 : IS(14) && count == 16 ? 15 : count, out, room, report);
     size_t made = r ? 0 : report->count, taken = 0;
     for (size_t i = 0; i < made; i++) taken += report->steps[i].length;
     if (IS(16) && made > 1 && report->steps[1].length) out[report->steps[0].length] ^= 1;
     if (IS(17) && made > 1 && !report->steps[made - 1].length) report->count--;
     if (IS(18) && made > 1) report->steps[0].timer = report->steps[made - 1].timer;
-    if (IS(19) && made) h->report = report->steps[made - 1];
+    if (IS(19) && made) h->report = none;
     if (IS(20) && r) h->marks.count++;
     if (IS(21) && made && taken < room) out[taken] ^= 1;
     if (IS(22) && r == TSENDRIVATY_OUT_TOO_SMALL) report->count = 0, r = 0;
-    if (IS(24) && made && made < 16) report->steps[made] = before.steps[made];
+    if (IS(24) && made && made < 16) report->steps[made] = none;
     if (IS(25) && r) report->count++;
     return r;
 }

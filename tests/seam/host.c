@@ -101,9 +101,7 @@ static void watched(int refused, size_t length) {
 
 /* ---- a burst beside the same steps one by one */
 
-static const struct tsendrivaty_report no_report;
-
-/* Of a burst from `was` to `m`: whether it answered, told and left what it must, by single steps on another handler. */
+/* Of a burst from `was` to `m`: whether it answered, told and left what it must, by single steps on another handler. Places of the report without a step stay. */
 static int as_steps(uint32_t answer, size_t length, uint8_t expired, size_t count, size_t space) {
     static struct tsendrivaty_handler one;
     static struct tsendrivaty_burst_report made;
@@ -112,7 +110,8 @@ static int as_steps(uint32_t answer, size_t length, uint8_t expired, size_t coun
     uint32_t r = count > 16 ? TSENDRIVATY_BURST_TOO_LONG : 0;
     memcpy(&one, &was.h, sizeof one);
     memcpy(out, was.out, space);
-    memset(&made, 0, sizeof made);
+    memcpy(&made, &was.r, sizeof made);
+    made.count = 0;
     for (size_t k = 0; !r && k < count; k++) {
         r = tsendrivaty_step(&one, file, length, k ? 0 : expired, out + at, space - at);
         if (r) break;
@@ -122,7 +121,6 @@ static int as_steps(uint32_t answer, size_t length, uint8_t expired, size_t coun
     }
     if (made.count) r = 0;
     if (r) return answer == r && kept(1, 1, 0);
-    one.report = no_report;
     return answer == 0 && same_reports(&m.r, &made) && same(&m.h, &one) && memcmp(m.out, out, space) == 0 && kept(0, 1, at);
 }
 
@@ -522,8 +520,6 @@ static int one_call(int call) {
         size_t space = some() % 4 ? room : some() % 150, length = some() % 9 ? lent : some() % 21, count = some() % 16 ? some() % 18 : some();
         uint8_t expired = (uint8_t)some();
         r = tsendrivaty_burst(&m.h, file, length, expired, count, m.out, space, &m.r);
-        /* no step to compare with: what is stored says the same state, but a flag of 255 may have become 1 */
-        if (count == 0) return r == 0 && m.r.count == 0 && same_report(&m.h.report, &no_report) && kept(0, 1, 0);
         return known(r) && as_steps(r, length, expired, count, space);
     }
     return known(r) && kept(r != 0, 0, n);
@@ -536,7 +532,7 @@ static void garbage(int way, const char *label, int rounds) {
     memset(&m, 0xA5, sizeof m);
     for (int i = 0; i < rounds; i++) {
         filled(way);
-        for (int k = 0; k < 14; k++, calls++) good += one_call(k < 7 ? k : (int)(some() % 7));
+        for (int k = 0; k < 14; k++, calls++) good += one_call(k < 7 ? (k + i) % 7 : (int)(some() % 7)); /* each in its turn is the first */
     }
     printf("garbage, %s: %d of %d calls returned as they must\n", label, good, calls);
     wrong += good != calls;
