@@ -9,13 +9,13 @@
  *    pattern is a state, and every call returns on it.
  *  - A slice is a pointer and a length. The pointer is not null, also where the length is 0, and that many bytes can be read (in `out`: written).
  *  - Slices don't overlap the handler, and `out` overlaps no other slice.
- *  - The same of the report that you lend to a burst: sizeof(struct tsendrivaty_burst_report) bytes, aligned to 8, whatever is in them; it overlaps neither the
+ *  - The report that you lend to a burst is sizeof(struct tsendrivaty_burst_report) bytes, aligned to 8, whatever is in them; it overlaps neither the
  *    handler nor a slice.
  *  - One call at a time on one handler. Different handlers know nothing of each other.
  *  - From an accepted put until the step is Idle again, lend the same file, unchanged, at every step and burst. Only its length is tested (30).
  *  - Expiry is a level: once the timer has run out, say `expired` at every step and burst until a report starts a timer again.
- *  - After each accepted step take report.length bytes from the front of `out` and send them, before you lend `out` again; after an accepted burst those of all
- *    its steps.
+ *  - After each accepted step take report.length bytes from the front of `out` and send them, before you lend `out` again; after an accepted burst
+ *    those of all its steps.
  */
 #ifndef TSENDRIVATY_H
 #define TSENDRIVATY_H
@@ -195,8 +195,8 @@ struct tsendrivaty_marks {
     uint8_t anomalies; /* 0 in every state that calls can reach from a new handler */
 };
 
-/* ---- The report. The CALLS write it, YOU read it after an accepted step. An accepted burst leaves that of its last step, an accepted call of another kind clears it,
- * a refused call leaves it.
+/* ---- The report. The CALLS write it, YOU read it after an accepted step. An accepted burst leaves that of its last step, an accepted call of another
+ * kind clears it, a refused call leaves it.
  * Each event occurs at most once in a step, and they occurred in this order: transaction, eofsent, fault, finished, timer. */
 
 struct tsendrivaty_report {
@@ -218,7 +218,7 @@ struct tsendrivaty_report {
 
 struct tsendrivaty_burst_report {
     uint64_t count;                      /* so many steps were made, 0 to 16 */
-    struct tsendrivaty_report steps[16]; /* the report of each, in order; `length` says how far the next PDU stands behind this one. Places behind `count` keep what they held */
+    struct tsendrivaty_report steps[16]; /* the report of each, in order; the next PDU stands `length` bytes further. Places behind `count` keep what they held */
 };
 
 /* ---- The handler. Padding between fields has no meaning: no call reads it, and a call may change it. */
@@ -254,13 +254,14 @@ uint32_t tsendrivaty_deliver(struct tsendrivaty_handler *handler, const uint8_t 
  * flag: the timer has run out. Returns 0, 30 or 31; those two undo the step wholly: make it again with the right file or a larger `out`. */
 uint32_t tsendrivaty_step(struct tsendrivaty_handler *handler, const uint8_t *file, size_t file_length, uint8_t expired, uint8_t *out, size_t out_length);
 
-/* Makes up to `count` steps over the lent file in one call, 0 to 16, and lays their PDUs end to end in `out`: the first in front, each other behind the one
- * before; bytes behind the last PDU stay. The first step has `expired`, the others not. `report` says how many were made, and of each what a step's report says.
- * Handler, bytes and reports are those of the same steps made one by one; so the handler's own report is the last step's.
- * Fewer are made only so: a step that emits nothing is made, is the last, and has the length 0; a later step whose PDU does not fit the rest of `out` is not made.
- * Neither an EOF nor Idle ends a burst. An `out` of `count` times the entry's packet maximum is enough, so 65,536 bytes are for any burst.
- * Returns 0; 32 for a count above 16, tested first, in Idle too; or 30 and 31 of the first step, 31 if its PDU does not fit the whole of `out`. Those change nothing, not in
- * the report either. A count of 0 makes no step and tests nothing: it is accepted with any file and any `out`, and changes nothing but `report->count`. */
+/* Makes up to `count` steps over the lent file in one call, 0 to 16, and lays their PDUs end to end in `out`, the first in front; bytes behind the last
+ * PDU stay. The first step has `expired`, the others not. `report` says how many were made, and of each what a step's report says. Handler, bytes and
+ * reports are those of the same steps made one by one; so the handler's own report is the last step's.
+ * Fewer are made for two reasons only: a step that emits nothing is made and is the last, with the length 0; a later step whose PDU does not fit the
+ * rest of `out` is not made. Neither an EOF nor Idle ends a burst. `count` times the entry's packet maximum is room enough, 65,536 bytes for any burst.
+ * Returns 0; 32 for a count above 16, tested first, in Idle too; or 30 and 31 of the first step, 31 if its PDU does not fit the whole of `out`. These
+ * change nothing, not in the report either. A count of 0 makes no step and tests nothing: it is accepted with any file and any `out`, and changes
+ * nothing but report->count. */
 uint32_t tsendrivaty_burst(struct tsendrivaty_handler *handler, const uint8_t *file, size_t file_length, uint8_t expired, size_t count, uint8_t *out,
                            size_t out_length, struct tsendrivaty_burst_report *report);
 

@@ -292,8 +292,8 @@ pub struct Step<'a> {
     pub events: Events,
 }
 
-/// An accepted burst: the steps that were made, in order, 0 to 16 of them. Each is what `Handler::step` gives, with its PDU where it stands in the lent buffer; only the
-/// last may be without one.
+/// An accepted burst: the steps that were made, in order, 0 to 16 of them. Each is what `Handler::step` gives, with its PDU where it stands in
+/// the lent buffer; only the last may be without one.
 #[derive(Clone, Debug)]
 pub struct Burst<'a> {
     report: BurstReport,
@@ -483,9 +483,10 @@ impl Handler {
         Ok(Step { pdu: &out[..self.report.length as usize], events: Events::of(&self.report) })
     }
 
-    /// Up to `count` steps in one call, 0 to 16, their PDUs end to end in `out`; the first step has `expired`, the others not. Handler, bytes and events are those of the
-    /// same steps made one by one. A step that emits nothing is made and ends the burst; a later one whose PDU does not fit the rest of `out` is not made. Refusals: 32 for a
-    /// count above 16, tested first, then 30 and 31 of the first step. A count of 0 makes no step and tests nothing. 65,536 bytes of `out` are enough for any burst.
+    /// Up to `count` steps in one call, 0 to 16, their PDUs end to end in `out`; the first step has `expired`, the others not. Handler, bytes
+    /// and events are those of the same steps made one by one. A step that emits nothing is made and ends the burst; a later one whose PDU does
+    /// not fit the rest of `out` is not made. Refusals: 32 for a count above 16, tested first, then 30 and 31 of the first step. A count of 0
+    /// makes no step and tests nothing. 65,536 bytes of `out` are enough for any burst.
     pub fn burst<'a>(&mut self, file: &[u8], expired: bool, count: usize, out: &'a mut [u8]) -> Result<Burst<'a>, Refusal> {
         let mut report = BurstReport { count: 0, steps: [EMPTY.report; 16] };
         let (f, n) = (file.as_ptr(), file.len());

@@ -1,7 +1,7 @@
 /* A test host in C: runs the seven functions over one handler and prints a line for each call; tests/link compares the lines with expected.txt, whose
- * bytes are the model's. Beside that, each call is watched: a refused one may change no number of the handler or of a burst's report and no byte of `out`, no call may touch
- * the configuration, the lent slices, bytes of `out` behind the PDU, or what lies around the handler, the report and `out`; a burst must leave what the same steps leave,
- * made one by one. host.rs prints the same. */
+ * bytes are the model's. Beside that, each call is watched: a refused one may change no number of the handler or of a burst's report and no byte of
+ * `out`, no call may touch the configuration, the lent slices, bytes of `out` behind the PDU, or what lies around the handler, the report and `out`; a
+ * burst must leave what the same steps leave, made one by one. host.rs prints the same. */
 #include "../../include/tsendrivaty.h"
 
 int printf(const char *, ...); /* by hand: the kit's compiler has no headers of the C library */
@@ -101,7 +101,8 @@ static void watched(int refused, size_t length) {
 
 /* ---- a burst beside the same steps one by one */
 
-/* Of a burst from `was` to `m`: whether it answered, told and left what it must, by single steps on another handler. Places of the report without a step stay. */
+/* Of a burst from `was` to `m`: whether it answered, told and left what it must, by single steps on another handler. Places of the report without a
+ * step stay. */
 static int as_steps(uint32_t answer, size_t length, uint8_t expired, size_t count, size_t space) {
     static struct tsendrivaty_handler one;
     static struct tsendrivaty_burst_report made;
@@ -545,7 +546,8 @@ static void random_put(void) {
     static const uint8_t actions[3] = {TSENDRIVATY_CANCEL, TSENDRIVATY_IGNORE, TSENDRIVATY_ABANDON};
     struct tsendrivaty_config *c = &m.h.config;
     lent = some() % 21;
-    c->remotes[0] = (struct tsendrivaty_remote){.id = {1, 2}, .maxpacket = 24 + some() % 30, .maxsegment = 1 + some() % 4, .limit = (uint8_t)(some() % 4)};
+    c->remotes[0] = (struct tsendrivaty_remote){.id = {1, 2}, .maxpacket = 24 + some() % 30, .maxsegment = 1 + some() % 4};
+    c->remotes[0].limit = (uint8_t)(some() % 4);
     c->remotes[0].checksum = sums[some() % 4];
     c->remotes[0].crc = some() % 2;
     for (int i = 0; i < 16; i++) c->actions[i] = actions[some() % 3];
@@ -581,7 +583,8 @@ static int random_burst(size_t *made) {
     if (dice == 1) tsendrivaty_reset(&m.h);
     if (dice == 2) tsendrivaty_cancel(&m.h, 1, m.h.transaction.source.value, 1, m.h.transaction.number.value);
     if (dice >= 16) random_delivery();
-    size_t space = some() % 2 ? room : some() % 250, length = some() % 16 ? lent : some() % 21, count = some() % 8 ? 1 + some() % 16 : some() % 20;
+    size_t space = some() % 2 ? room : some() % 250, length = some() % 16 ? lent : some() % 21;
+    size_t count = some() % 8 ? 1 + some() % 16 : some() % 20;
     uint8_t expired = some() % 3 == 0;
     m.out[some() % 250] = (uint8_t)some();
     m.r.steps[some() % 16].length = some();

@@ -580,8 +580,8 @@ fn one_call(r: &mut Random, m: &mut Memory, b: &[u8], call: u64) -> bool {
         }
         3 => {
             let (source, number) = (word(b, SOURCE), word(b, NUMBER));
-            refused =
-                !m.around.h.cancel(EntityId { width: r.next() as u8, value: source }, SequenceNumber { width: r.next() as u8, value: number });
+            let id = EntityId { width: r.next() as u8, value: source };
+            refused = !m.around.h.cancel(id, SequenceNumber { width: r.next() as u8, value: number });
         }
         4 => m.around.h.reset(),
         6 => {
@@ -613,6 +613,11 @@ fn garbage(way: Way, label: &str, rounds: usize) -> bool {
 
 // ---- random passes on a handler that began as a new one: every burst is what the same steps are, one by one
 
+/// The number of the transaction under way.
+fn current(h: &Handler) -> u8 {
+    h.next_number().value.wrapping_sub(1) as u8
+}
+
 /// A NAK of bytes that have left, an ACK of the EOF or a Finished; the two last most often at their time.
 fn random_delivery(r: &mut Random, h: &mut Handler) {
     let (kind, top) = (r.below(8), h.progress() + 1);
@@ -630,8 +635,7 @@ fn random_delivery(r: &mut Random, h: &mut Handler) {
             nak
         }
     };
-    let number = h.next_number().value.wrapping_sub(1) as u8;
-    let _ = h.deliver(&[&[0x28, 0, body.len() as u8, 0, 1, number, 2], &body[..]].concat());
+    let _ = h.deliver(&[&[0x28, 0, body.len() as u8, 0, 1, current(h), 2], &body[..]].concat());
 }
 
 fn random_put(r: &mut Random, h: &mut Handler) -> usize {
@@ -658,7 +662,7 @@ fn random_bursts(rounds: usize) -> bool {
         }
         match dice {
             1 => h.reset(),
-            2 => _ = h.cancel(EntityId { width: 1, value: 1 }, SequenceNumber { width: 1, value: h.next_number().value.wrapping_sub(1) & 255 }),
+            2 => _ = h.cancel(EntityId { width: 1, value: 1 }, SequenceNumber { width: 1, value: current(h).into() }),
             16.. => random_delivery(&mut r, h),
             _ => (),
         }
