@@ -236,7 +236,7 @@ bursts-told h r file expired count out z =
     long = length-map (madeIn b) reported ∙ burst-is-steps (stateOf h) file (flagOf expired) count out a .places .0
 
     told-in : toldIn (burstReport r b) ≡ map reported (madeIn b)
-    told-in = take-at (map reported (madeIn b)) (drop (b .count) (r .steps)) (b .count) long
+    told-in = take-at (map reported (madeIn b)) _ (b .count) long
 
 pub config-stays : ConfigStays
 unfolding heldOf newDone putDone deliverDone stepDone burstDone cancelDone resetDone
