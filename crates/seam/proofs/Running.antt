@@ -1,14 +1,14 @@
 -- The loop of a burst on the memory: the steps so far and those still made from there on are all of them, and so are the bytes laid.
 -- Assumes nothing.
 use mathlib.Core.Path.{_≡_, refl, sym, ap, ap₂, subst, _∙_}
-use mathlib.Core.Bool.{Bool, true, false}
+use mathlib.Core.Bool.{Bool, true, false, true≢false}
 use mathlib.Core.List.{List, [], _∷_, _++_, map, map-append, append-assoc, append-nil}
 use Prim.Native.Nat.{ℕ, zero, suc, _+_, _-_, _<_, _≤_}
 use native.Mathlib.Omega.{arith}
 use lib.Dec.{eqb, ltb}
 use lib.ListN.{length, take, drop, set, length-append, length-map, length-drop, take-append-drop, replicate}
 use lib.Seq.{take-at, set-at, drop-cons, take-append-add, drop-append-add, length-take-le}
-use borrow.Author.Tests.{ne-eqb, lt-ltb}
+use borrow.Author.Tests.{eq-eqb, ne-eqb, eqb-true, lt-ltb}
 use Rattle.basis.specs.Pick.{pick}
 use Rattle.rules.specs.Refusals.{answerNo}
 use Rattle.rules.specs.Step.{stepSpec, stepBytes}
@@ -16,9 +16,12 @@ use Rattle.rules.specs.Burst.{ifMade, stepsOf, laidOf, burstAnswer, allowed, ma
 use Rattle.rules.specs.Runs.{madeIn}
 use Rattle.rules.proofs.Exactly.{numbered, step-keeps, refusal-changes-nothing}
 use Rattle.rules.proofs.Singly.{step-length}
-use Rattle.source_step.proofs.Bursting.{step-room}
+use Rattle.source_step.proofs.Bursting.{step-room, part-rest, put-rest}
+use borrow.Rule.Slice.PartMut.{midOf, putMid}
+use Rattle.basis.specs.Laid.{inFront}
 use Rattle.seam_rules.specs.Memory.{flagOf, stateOf, heldOf, reported, reportOf, noReport}
-use Rattle.seam_rules.specs.Seam.{lastReport, burstBy, burstDone, burstOut}
+use Rattle.seam_rules.specs.Seam.{stepDone, stepOut, lastReport, burstBy, burstDone, burstOut}
+use Rattle.seam_rules.proofs.Laws.{memory-follows, memory-untouched, report-told, config-stays}
 use Rattle.types.specs.declared.State.{State}
 use Rattle.types.specs.declared.Stepped.{Stepped}
 use Rattle.types.specs.declared.Bursted.{Bursted}
@@ -28,6 +31,9 @@ use Rattle.types.specs.declared.Answer.the-variants.{Accepted, Refused}
 use Rattle.seam_rules.specs.declared.memory.Report.{Report}
 use Rattle.seam_rules.specs.declared.memory.BurstReport.{BurstReport}
 use Rattle.seam_rules.specs.declared.memory.Handler.{Handler}
+use Rattle.seam_rules.specs.declared.Done.{Done}
+use Rattle.seam.specs.Pieces.{isPiece, pieceBytes, pieceHeld}
+use Rattle.seam.proofs.Pieces.{piece-step}
 use Rattle.seam.specs.Running.{RanBy, RanMeets, settled, codeBy, ranDone}
 use Rattle.seam.specs.declared.burst.Ran.{Ran}
 
@@ -334,15 +340,110 @@ module _
           ∙ ap (λ (i : ℕ). answerNo (stepSpec (stateOf h) file expired i .answer)) o
           ∙ ap (λ (b : Bool). answerNo (pick b Accepted (stepSpec (stateOf h) file expired (length out₀) .answer))) (sym y)
 
+-- the same in the code's words: the buffer o, and the length that the report tells
+module _
+    (h : Handler) (r : List Report) (file : List ℕ) (expired : Bool) (n : ℕ) (out₀ : List ℕ) (u : Handler) (steps : List Report) (k end at code : ℕ) (out : List ℕ)
+    (z : Runs h r file expired n out₀ u steps k end at code out) (l : k < end) (v : Handler) (found : ℕ) (o : List ℕ)
+    (t : Turned u (stepSpec (stateOf u) file (nextFlag k expired) (length out - at)) v found)
+    (e : o ≡ take at out ++ stepBytes (stateOf u) file (nextFlag k expired) (drop at out)) where
+  pub room-told : found ≡ 0 → at + v .report .length ≤ length out₀
+  room-told a =
+      let i = length-told h r file expired n out₀ u steps k end at code out z l v found t a in
+      let j = room h r file expired n out₀ u steps k end at code out z l v found in
+      let w = z .within in
+      let y = z .whole in
+      omega arith
+
+  moved : (last : ℕ) {i j : ℕ} → i ≡ j
+      → Runs h r file expired n out₀ v (set steps k (v .report)) (k + 1) last (at + i) found (take at out ++ stepBytes (stateOf u) file (nextFlag k expired) (drop at out))
+      → Runs h r file expired n out₀ v (set steps k (v .report)) (k + 1) last (at + j) found o
+  moved last {i} {j} f x =
+      subst (λ (y : List ℕ). Runs h r file expired n out₀ v (set steps k (v .report)) (k + 1) last (at + j) found y) (sym e)
+      (subst (λ (m : ℕ). Runs h r file expired n out₀ v (set steps k (v .report)) (k + 1) last (at + m) found (take at out ++ stepBytes (stateOf u) file (nextFlag k expired) (drop at out))) f x)
+
+  pub again-quiet : found ≡ 0 → v .report .length ≡ 0 → Runs h r file expired n out₀ v (set steps k (v .report)) (k + 1) (k + 1) (at + v .report .length) found o
+  again-quiet a q =
+      let i = length-told h r file expired n out₀ u steps k end at code out z l v found t a in
+      moved (k + 1) (sym i) (goes-on h r file expired n out₀ u steps k end at code out z l v found t a (k + 1) (λ f. refl)
+      (λ f. absurd (true≢false (sym (eq-eqb _ 0 (sym i ∙ q)) ∙ f))))
+
+  pub again-more : found ≡ 0 → ¬ (v .report .length ≡ 0) → Runs h r file expired n out₀ v (set steps k (v .report)) (k + 1) end (at + v .report .length) found o
+  again-more a q =
+      let i = length-told h r file expired n out₀ u steps k end at code out z l v found t a in
+      moved end (sym i) (goes-on h r file expired n out₀ u steps k end at code out z l v found t a end (λ f. absurd (q (i ∙ eqb-true _ 0 f))) (λ f. refl))
+
+  pub again-refused : ¬ (found ≡ 0) → Runs h r file expired n out₀ v steps k k at found o
+  again-refused a =
+      subst (λ (y : List ℕ). Runs h r file expired n out₀ v steps k k at found y) (sym e) (stops h r file expired n out₀ u steps k end at code out z l v found t a)
+
+-- the flag that the code passes
+pub flag-first : (k x expired : ℕ) → k ≡ 0 → x ≡ expired → flagOf x ≡ nextFlag k (flagOf expired)
+flag-first k x expired e f = ap flagOf f ∙ ap (λ (b : Bool). pick b (flagOf expired) false) (sym (eq-eqb k 0 e))
+
+pub flag-later : (k x expired : ℕ) → (k ≡ 0 → ⊥) → x ≡ 0 → flagOf x ≡ nextFlag k (flagOf expired)
+unfolding flagOf
+flag-later k x expired e f = ap flagOf f ∙ ap (λ (b : Bool). pick b (flagOf expired) false) (sym (ne-eqb k 0 e))
+
+-- ---- a step on the memory, by its definition or in place
+
+pub turned-step : (u : Handler) (file : List ℕ) (expired : ℕ) (room : List ℕ)
+    → let d = stepDone u file expired room in
+    Turned u (stepSpec (stateOf u) file (flagOf expired) (length room)) (d .held) (d .code)
+turned-step u file expired room =
+    let f = memory-follows .step u file expired room in
+    record {
+      says = f .0;
+      config = config-stays .step u file expired room;
+      state = f .1;
+      report = λ e. report-told .step u file expired room (f .0 ∙ e);
+      refused = λ e. memory-untouched .step u file expired room (λ i. e (sym (f .0) ∙ i)) .0;
+    }
+
+pub turned-piece : (u : Handler) (file : List ℕ) (expired : Bool) (room : List ℕ) → isPiece u (length file) (length room) ≡ true
+    → Turned u (stepSpec (stateOf u) file expired (length room)) (pieceHeld u (length (pieceBytes u file))) 0
+turned-piece u file expired room p =
+    let k = piece-step u file expired room p in
+    rw (k .0) (record { says = refl; config = k .3; state = refl; report = λ e. k .2; refused = λ e. absurd (e refl) })
+
+-- in the code's words: the part of the buffer from `at` on is lent and put back
+module _ (u : Handler) (file out : List ℕ) (at : ℕ) (w : at ≤ length out) (v : Handler) (found : ℕ) (part o : List ℕ) (f : o ≡ putMid at (length out - at) out part) where
+  abbrev Gives : Bool → Type 0
+  Gives x =
+      Turned u (stepSpec (stateOf u) file x (length out - at)) v found × (o ≡ take at out ++ stepBytes (stateOf u) file x (drop at out))
+
+  pub gives-step : (expired : ℕ) (x : Bool) → flagOf expired ≡ x → (d : Done) → d ≡ stepDone u file expired (midOf at (length out - at) out) → v ≡ d .held → found ≡ d .code
+      → part ≡ stepOut u file expired (midOf at (length out - at) out) → Gives x
+  unfolding stepOut
+  gives-step expired x i d e a b g =
+      let p = part-rest at out w in
+      let l : length (midOf at (length out - at) out) ≡ length out - at = ap length p ∙ length-drop at out in
+      let t = turned-step u file expired (midOf at (length out - at) out) in (
+        rw (a, b, e) (rw (l, i) at t),
+        f ∙ put-rest at out part w ∙ ap (λ (y : List ℕ). take at out ++ y) (g ∙ ap₂ (λ (b : Bool) (y : List ℕ). stepBytes (stateOf u) file b y) i p),
+      )
+
+  pub gives-piece : (x : Bool) → isPiece u (length file) (length out - at) ≡ true → (n : ℕ) → n ≡ length (pieceBytes u file) → v ≡ pieceHeld u n → found ≡ 0
+      → part ≡ inFront (pieceBytes u file) (midOf at (length out - at) out) → Gives x
+  gives-piece x q n e a b g =
+      let d = drop at out in
+      let l : length d ≡ length out - at = length-drop at out in
+      let y : isPiece u (length file) (length d) ≡ true = rw l q in
+      let t = turned-piece u file x d y in
+      let k = piece-step u file x d y in (
+        rw (a, b, e) (rw l at t),
+        f ∙ put-rest at out part w ∙ ap (λ (y : List ℕ). take at out ++ y) (g ∙ ap (inFront (pieceBytes u file)) (part-rest at out w) ∙ sym (k .1)),
+      )
+
 -- ---- at the end
 
 pub ends : (h : Handler) (r : List Report) (file : List ℕ) (expired : Bool) (n : ℕ) (out₀ : List ℕ) (u : Handler) (steps : List Report) (k end at code : ℕ) (out : List ℕ)
     → Runs h r file expired n out₀ u steps k end at code out → ¬ (k < end)
     → RanMeets h r file expired n out₀ out (record { held = u; steps = steps; count = k; code = code })
 unfolding stepsOf laidOf
-ends h r file expired n out₀ u steps k end at code out z l =
-    (subst (λ (rs : List Stepped). RanBy h r rs reason (record { held = u; steps = steps; count = k; code = code })) all told,
-    sym (take-append-drop at out) ∙ ap (λ (i : ℕ). take at out ++ laidOf i (stateOf u) file (nextFlag k expired) (drop at out)) (sym none) ∙ z .lays)
+ends h r file expired n out₀ u steps k end at code out z l = (
+  subst (λ (rs : List Stepped). RanBy h r rs reason (record { held = u; steps = steps; count = k; code = code })) all told,
+  sym (take-append-drop at out) ∙ ap (λ (i : ℕ). take at out ++ laidOf i (stateOf u) file (nextFlag k expired) (drop at out)) (sym none) ∙ z .lays,
+)
   where
     reason : ℕ
     reason = answerNo (pick (eqb n 0) Accepted (stepSpec (stateOf h) file expired (length out₀) .answer))
@@ -430,7 +531,7 @@ module _ (h : Handler) (r : BurstReport) (file : List ℕ) (expired count : ℕ)
       go true f = absurd (f refl)
       go false f = rw (ne-eqb (suc k) 0 (λ g. omega (arith, g))) refl
 
-  pub ran-done : (after : List ℕ) → RanMeets h (r .steps) file x (allowed count) out after m
+  ran-done : (after : List ℕ) → RanMeets h (r .steps) file x (allowed count) out after m
       → (ranDone count r m ≡ burstDone h r file expired count out) × (after ≡ burstOut h file expired count out)
   unfolding burstDone burstOut burstSpec burstBytes
   ran-done after z = (go rs refl (z .0), z .1)
@@ -446,3 +547,7 @@ module _ (h : Handler) (r : BurstReport) (file : List ℕ) (expired count : ℕ)
           let n : ¬ (length rs ≡ 0) = λ f. let i = ap length e in omega (arith, f, i) in
           some-done q l why y (some-code (length l) (y .count) n)
           ∙ ap₂ (λ (k : List Stepped) (a : Answer). burstBy h r (bursted k) a) (sym e) (sym (some-taken n))
+
+  pub ran-done-by : (i : ℕ) → i ≡ allowed count → (after : List ℕ) → RanMeets h (r .steps) file x i out after m
+      → (ranDone count r m ≡ burstDone h r file expired count out) × (after ≡ burstOut h file expired count out)
+  ran-done-by i e after z = ran-done after (subst (λ (j : ℕ). RanMeets h (r .steps) file x j out after m) e z)

@@ -1,17 +1,19 @@
 // The sending handler for C: one handler in memory that the host lends. Each function copies the memory out, makes the call on values, and
 // stores what comes of it; a refusal stores what was there. A step and a delivery go in two parts, so that no more is stored than what they change (modules
-// `step`, `deliver`); the other calls are in module `calls`, what lies between memory and values in `taken`, `stored` and `events`. Every bit pattern of the memory is a handler, so nothing is asked of the host but the pointers.
+// `step`, `deliver`); a burst makes its steps on the memory as a value (modules `burst`, `piece`); the other calls are in module `calls`, what lies between memory and values in `taken`, `stored` and `events`. Every bit pattern of the memory is a handler, so nothing is asked of the host but the pointers.
 mod burst;
 mod calls;
 mod deliver;
 mod events;
 mod light;
+mod piece;
 mod step;
 mod stored;
 mod taken;
 
 ghost use mathlib.Core.Path.{_≡_};
-ghost use Rattle.seam_rules.specs.Seam.{newDone, putDone, deliverDone, stepDone, stepOut, cancelDone, resetDone};
+ghost use Rattle.seam_rules.specs.Seam.{newDone, putDone, deliverDone, stepDone, stepOut, burstDone, burstOut, cancelDone, resetDone};
+use crate::burst::burst_done;
 use crate::calls::cancel_done;
 use crate::calls::new_done;
 use crate::calls::put_done;
@@ -21,6 +23,7 @@ use crate::deliver::queue_held;
 use crate::light::light_held;
 use crate::step::bulk_held;
 use crate::step::step_told;
+use seam_rules::memory::BurstReport;
 use seam_rules::memory::Handler;
 
 // A handler whose first put takes this number of `width` bytes; the configuration stays. Returns 0.
@@ -96,6 +99,28 @@ pub extern "C" fn tsendrivaty_step(
     } else {
         *state = light_held(*state, d.light);
     }
+    d.code
+}
+
+// Up to `count` steps over the lent file, at most 16: the first with `expired`, the others without. The PDUs stand end to end in front of `out`, and `report` says how many steps were
+// made, and of each its length and its events. Returns 0 or the refusal's number.
+#[no_mangle]
+pub extern "C" fn tsendrivaty_burst(
+    state: &mut Handler,
+    file: &[u8],
+    expired: u8,
+    count: usize,
+    out: &mut [u8],
+    report: &mut BurstReport,
+) -> u32
+    ensures { λ r. ⌜ (now (state .exit) ≡ burstDone (now (state .entry)) (now (report .entry)) (now (file .entry)) expired count (now (out .entry)) .held)
+        × (now (report .exit) ≡ burstDone (now (state .entry)) (now (report .entry)) (now (file .entry)) expired count (now (out .entry)) .report)
+        × (r ≡ burstDone (now (state .entry)) (now (report .entry)) (now (file .entry)) expired count (now (out .entry)) .code)
+        × (now (out .exit) ≡ burstOut (now (state .entry)) (now (file .entry)) expired count (now (out .entry))) ⌝ }
+{
+    let d = burst_done(*state, *report, file, expired, count, out);
+    *state = d.held;
+    *report = d.report;
     d.code
 }
 

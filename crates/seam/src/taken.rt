@@ -101,7 +101,7 @@ fn step_of(n: u8) -> TransactionStep
     TransactionStep::Idle
 }
 
-fn head_taken(t: Transaction) -> Head
+pub fn head_taken(t: Transaction) -> Head
     ensures { λ r. ⌜ r ≡ headTaken t ⌝ }
 {
     let unacknowledged = flag_of(t.unacknowledged);
