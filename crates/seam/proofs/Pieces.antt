@@ -1,14 +1,14 @@
 -- Where `is_piece` says yes, the step due is a data PDU of L bytes with more to follow: accepted, without an event, and nothing moves but the request's start and the report.
 -- Assumes nothing.
-use mathlib.Core.Path.{_≡_, refl, sym, ap, subst, _∙_}
+use mathlib.Core.Path.{_≡_, refl}
 use mathlib.Core.Bool.{Bool, true, false, false≢true}
-use mathlib.Core.List.{List, []}
+use mathlib.Core.List.{List}
 use Prim.Native.Nat.{ℕ, _+_, _-_, _<_, _≤_, min}
 use native.Mathlib.Omega.{arith}
 use lib.Dec.{eqb, leb, ltb}
 use lib.ListN.{length, take, drop, length-drop}
 use lib.Seq.{length-take-le}
-use borrow.Author.Tests.{ltb-true, ltb-false, leb-true, leb-false, eqb-true, eq-eqb, ne-eqb, lt-ltb, le-ltb, lt-leb}
+use borrow.Author.Tests.{ltb-true, ltb-false, leb-true, eqb-true, ne-eqb, lt-ltb, le-ltb, lt-leb}
 use Rattle.basis.specs.Pick.{pick, _and_, not}
 use Rattle.basis.specs.Laid.{inFront}
 use Rattle.basis.proofs.Pick.{both, cases}
@@ -24,10 +24,8 @@ use Rattle.types.specs.declared.State.{State}
 use Rattle.types.specs.declared.TransactionStep.the-variants.{SendingFileData}
 use Rattle.types.specs.declared.Due.{Due}
 use Rattle.types.specs.declared.Due.the-variants.{Repair, Data}
-use Rattle.types.specs.declared.Sending.{Sending}
 use Rattle.types.specs.declared.Sending.the-variants.{FileData}
 use Rattle.types.specs.declared.Answer.the-variants.{Accepted}
-use Rattle.types.specs.declared.Stepped.{Stepped}
 use Rattle.seam_rules.specs.Memory.{flagOf, stepOf, headTaken, fixedTaken, marksTaken, stateOf, reported}
 use Rattle.seam_rules.specs.declared.memory.Transaction.{Transaction}
 use Rattle.seam_rules.specs.declared.memory.Handler.{Handler}
