@@ -1,4 +1,4 @@
-/* Tsendrivaty: the sending side of CFDP (CCSDS 727.0-B-5) as six C functions over one handler, which lives in memory that you lend.
+/* Tsendrivaty: the sending side of CFDP (CCSDS 727.0-B-5) as seven C functions over one handler, which lives in memory that you lend.
  *
  * The archive is made by `rt staticlib seam` (target/staticlib/libseam.a, x86-64 Linux, position independent). It allocates nothing, keeps
  * nothing outside your struct, calls nothing but memcpy, memmove and memset of the C library, and uses no thread, clock or file.
@@ -9,10 +9,13 @@
  *    pattern is a state, and every call returns on it.
  *  - A slice is a pointer and a length. The pointer is not null, also where the length is 0, and that many bytes can be read (in `out`: written).
  *  - Slices don't overlap the handler, and `out` overlaps no other slice.
+ *  - The report that you lend to a burst is sizeof(struct tsendrivaty_burst_report) bytes, aligned to 8, whatever is in them; it overlaps neither the
+ *    handler nor a slice.
  *  - One call at a time on one handler. Different handlers know nothing of each other.
- *  - From an accepted put until the step is Idle again, lend the same file, unchanged, at every step. Only its length is tested (30).
- *  - Expiry is a level: once the timer has run out, say `expired` at every step until a report starts a timer again.
- *  - After each accepted step take report.length bytes from the front of `out` and send them, before you lend `out` again.
+ *  - From an accepted put until the step is Idle again, lend the same file, unchanged, at every step and burst. Only its length is tested (30).
+ *  - Expiry is a level: once the timer has run out, say `expired` at every step and burst until a report starts a timer again.
+ *  - After each accepted step take report.length bytes from the front of `out` and send them, before you lend `out` again; after an accepted burst
+ *    those of all its steps.
  */
 #ifndef TSENDRIVATY_H
 #define TSENDRIVATY_H
@@ -45,7 +48,7 @@ extern "C" {
 #define TSENDRIVATY_ASSERT(holds, says) _Static_assert(holds, says)
 #endif
 
-/* ---- Answers: 0, or the number of document 01's refusal. A refused call changes no number of the handler and no byte of `out`. */
+/* ---- Answers: 0, or the number of document 01's refusal. A refused call changes no number of the handler or of a report, and no byte of `out`. */
 
 enum tsendrivaty_answer {
     TSENDRIVATY_ACCEPTED = 0,
@@ -67,7 +70,9 @@ enum tsendrivaty_answer {
     TSENDRIVATY_RETRANSMIT_FULL = 25,
     /* step */
     TSENDRIVATY_FILE_CHANGED = 30,
-    TSENDRIVATY_OUT_TOO_SMALL = 31
+    TSENDRIVATY_OUT_TOO_SMALL = 31,
+    /* burst; tested before the two of its first step */
+    TSENDRIVATY_BURST_TOO_LONG = 32
 };
 
 /* Where a transaction stands. */
@@ -190,7 +195,8 @@ struct tsendrivaty_marks {
     uint8_t anomalies; /* 0 in every state that calls can reach from a new handler */
 };
 
-/* ---- The report. The CALLS write it, YOU read it after an accepted step. An accepted call of another kind clears it, a refused call leaves it.
+/* ---- The report. The CALLS write it, YOU read it after an accepted step. An accepted burst leaves that of its last step, an accepted call of another
+ * kind clears it, a refused call leaves it.
  * Each event occurs at most once in a step, and they occurred in this order: transaction, eofsent, fault, finished, timer. */
 
 struct tsendrivaty_report {
@@ -206,6 +212,13 @@ struct tsendrivaty_report {
     uint8_t finished;       /* 1: the transaction is over, with `values` */
     struct tsendrivaty_finished values;
     uint8_t timer;          /* 0 none; start now, running or not: 1 the ack timer, 2 the check timer */
+};
+
+/* What an accepted burst said. YOU lend it, the burst fills it, no other call knows it, and a refused burst leaves it. */
+
+struct tsendrivaty_burst_report {
+    uint64_t count;                      /* so many steps were made, 0 to 16 */
+    struct tsendrivaty_report steps[16]; /* the report of each, in order; the next PDU stands `length` bytes further. Places behind `count` keep what they held */
 };
 
 /* ---- The handler. Padding between fields has no meaning: no call reads it, and a call may change it. */
@@ -240,6 +253,17 @@ uint32_t tsendrivaty_deliver(struct tsendrivaty_handler *handler, const uint8_t 
 /* Makes one step over the lent file, emits at most one PDU in front of `out`, and fills the report; bytes of `out` behind the PDU stay. `expired` is a
  * flag: the timer has run out. Returns 0, 30 or 31; those two undo the step wholly: make it again with the right file or a larger `out`. */
 uint32_t tsendrivaty_step(struct tsendrivaty_handler *handler, const uint8_t *file, size_t file_length, uint8_t expired, uint8_t *out, size_t out_length);
+
+/* Makes up to `count` steps over the lent file in one call, 0 to 16, and lays their PDUs end to end in `out`, the first in front; bytes behind the last
+ * PDU stay. The first step has `expired`, the others not. `report` says how many were made, and of each what a step's report says. Handler, bytes and
+ * reports are those of the same steps made one by one; so the handler's own report is the last step's.
+ * Fewer are made for two reasons only: a step that emits nothing is made and is the last, with the length 0; a later step whose PDU does not fit the
+ * rest of `out` is not made. Neither an EOF nor Idle ends a burst. `count` times the entry's packet maximum is room enough, 65,536 bytes for any burst.
+ * Returns 0; 32 for a count above 16, tested first, in Idle too; or 30 and 31 of the first step, 31 if its PDU does not fit the whole of `out`. These
+ * change nothing, not in the report either. A count of 0 makes no step and tests nothing: it is accepted with any file and any `out`, and changes
+ * nothing but report->count. */
+uint32_t tsendrivaty_burst(struct tsendrivaty_handler *handler, const uint8_t *file, size_t file_length, uint8_t expired, size_t count, uint8_t *out,
+                           size_t out_length, struct tsendrivaty_burst_report *report);
 
 /* The user's cancel of the transaction with this source id and number (compared by value). Returns 1 for yes, and the EOF leaves with the next step; 0 for
  * no, and nothing changed: Idle, closing, already cancelled, or another transaction. */
@@ -334,6 +358,9 @@ TSENDRIVATY_AT(report, condition, 52, 1);
 TSENDRIVATY_AT(report, finished, 53, 1);
 TSENDRIVATY_AT(report, values, 54, 3);
 TSENDRIVATY_AT(report, timer, 57, 1);
+TSENDRIVATY_SIZE(burst_report, 1032);
+TSENDRIVATY_AT(burst_report, count, 0, 8);
+TSENDRIVATY_AT(burst_report, steps, 8, 1024);
 TSENDRIVATY_SIZE(handler, 2120);
 TSENDRIVATY_AT(handler, config, 0, 368);
 TSENDRIVATY_AT(handler, number, 368, 16);
@@ -346,8 +373,10 @@ TSENDRIVATY_AT(handler, marks, 2048, 8);
 TSENDRIVATY_AT(handler, report, 2056, 64);
 #ifdef __cplusplus
 TSENDRIVATY_ASSERT(alignof(struct tsendrivaty_handler) == 8, "the handler is not aligned to 8");
+TSENDRIVATY_ASSERT(alignof(struct tsendrivaty_burst_report) == 8, "the report of a burst is not aligned to 8");
 #else
 TSENDRIVATY_ASSERT(_Alignof(struct tsendrivaty_handler) == 8, "the handler is not aligned to 8");
+TSENDRIVATY_ASSERT(_Alignof(struct tsendrivaty_burst_report) == 8, "the report of a burst is not aligned to 8");
 #endif
 
 #ifdef __cplusplus

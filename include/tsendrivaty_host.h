@@ -1,4 +1,4 @@
-/* Tsendrivaty: a list of calls, given as bytes, run on a fresh handler. For tests in C or Rust; a product takes the six functions of tsendrivaty.h.
+/* Tsendrivaty: a list of calls, given as bytes, run on a fresh handler. For tests in C or Rust; a product takes the seven functions of tsendrivaty.h.
  *
  * The archive is made by `rt staticlib host` (target/staticlib/libhost.a, x86-64 Linux, position independent). It allocates nothing, keeps
  * nothing from one list to the next, calls nothing but memcpy, memmove and memset of the C library, and uses no thread, clock or file.
@@ -11,7 +11,7 @@
 #ifndef TSENDRIVATY_HOST_H
 #define TSENDRIVATY_HOST_H
 
-#include "tsendrivaty.h" /* the types of numbers, and the words for refusals; its six functions are in another archive */
+#include "tsendrivaty.h" /* the types of numbers, and the words for refusals; its seven functions are in another archive */
 
 #ifdef __cplusplus
 extern "C" {

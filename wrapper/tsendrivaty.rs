@@ -1,12 +1,13 @@
-//! Tsendrivaty from Rust: the six C functions of `rt staticlib seam` behind a safe `Handler`. `core` only, no dependencies, Rust 1.82 or later.
+//! Tsendrivaty from Rust: the seven C functions of `rt staticlib seam` behind a safe `Handler`. `core` only, no dependencies, Rust 1.82 or later.
 //!
 //! Take it in with `mod tsendrivaty;` and link the archive: `-L native=target/staticlib -l static=seam`. docs/SEAM.md is the guide.
 //!
-//! `unsafe` stands in the six calls alone. They are sound for every value of `Handler`: it holds numbers only, and the C functions take any
+//! `unsafe` stands in the seven calls alone. They are sound for every value of `Handler`: it holds numbers only, and the C functions take any
 //! bit pattern of it, any slice and any number, and return. `&mut self` gives them what else they ask: one call at a time, and no overlap.
+//! The report that a burst fills is the call's own.
 //!
 //! What is left to you: lend the same file, unchanged, from an accepted put until `is_idle`; once the timer has run out, say `expired` at
-//! every step until an event starts a timer; send `Step::pdu` before the next step.
+//! every step and burst until an event starts a timer; send `Step::pdu` before the next step, and all of a `Burst` before the next burst.
 
 use core::fmt;
 use core::mem::{align_of, offset_of, size_of};
@@ -179,6 +180,13 @@ struct Report {
     timer: u8,
 }
 
+#[repr(C)]
+#[derive(Clone, Copy, Debug, PartialEq, Eq)]
+struct BurstReport {
+    count: u64,
+    steps: [Report; 16],
+}
+
 /// The handler: 2,120 bytes with nothing behind them. Copy it to save it.
 #[repr(C)]
 #[derive(Clone, Copy, Debug, PartialEq, Eq)]
@@ -202,6 +210,7 @@ const _: () = assert!(offset_of!(Handler, marks) == 2048 && offset_of!(Handler, 
 const _: () = assert!(size_of::<Remote>() == 40 && offset_of!(Remote, checksum) == 32 && offset_of!(Config, count) == 336);
 const _: () = assert!(offset_of!(Transaction, segment) == 48 && offset_of!(Transaction, unacknowledged) == 80 && offset_of!(Eof, sum) == 4);
 const _: () = assert!(offset_of!(Report, transaction) == 48 && offset_of!(Report, values) == 54 && offset_of!(Report, timer) == 57);
+const _: () = assert!(size_of::<BurstReport>() == 1032 && align_of::<BurstReport>() == 8 && offset_of!(BurstReport, steps) == 8);
 
 // ---- What a step says
 
@@ -283,6 +292,43 @@ pub struct Step<'a> {
     pub events: Events,
 }
 
+/// An accepted burst: the steps that were made, in order, 0 to 16 of them. Each is what `Handler::step` gives, with its PDU where it stands in
+/// the lent buffer; only the last may be without one.
+#[derive(Clone, Debug)]
+pub struct Burst<'a> {
+    report: BurstReport,
+    next: usize,
+    rest: &'a [u8],
+}
+
+impl<'a> Burst<'a> {
+    /// All PDUs that have not been taken yet, end to end: of a fresh burst what one frame carries.
+    pub fn pdus(&self) -> &'a [u8] {
+        &self.rest[..self.left().iter().map(|r| r.length as usize).sum()]
+    }
+
+    fn left(&self) -> &[Report] {
+        &self.report.steps[self.next..self.report.count as usize]
+    }
+}
+
+impl<'a> Iterator for Burst<'a> {
+    type Item = Step<'a>;
+
+    fn next(&mut self) -> Option<Step<'a>> {
+        let report = *self.left().first()?;
+        let (pdu, rest) = self.rest.split_at(report.length as usize);
+        (self.next, self.rest) = (self.next + 1, rest);
+        Some(Step { pdu, events: Events::of(&report) })
+    }
+
+    fn size_hint(&self) -> (usize, Option<usize>) {
+        (self.left().len(), Some(self.left().len()))
+    }
+}
+
+impl ExactSizeIterator for Burst<'_> {}
+
 // ---- Refusals
 
 /// Document 01's refusals, by its numbers. A refused call changes nothing. docs/REFUSALS.md says what to do.
@@ -305,6 +351,7 @@ pub enum Refusal {
     RetransmitFull = 25,
     FileChanged = 30,
     OutTooSmall = 31,
+    BurstTooLong = 32,
 }
 
 impl Refusal {
@@ -342,6 +389,7 @@ fn answer(code: u32) -> Result<(), Refusal> {
         25 => RetransmitFull,
         30 => FileChanged,
         31 => OutTooSmall,
+        32 => BurstTooLong,
         _ => unreachable!("not one of document 01's numbers"),
     })
 }
@@ -349,7 +397,7 @@ fn answer(code: u32) -> Result<(), Refusal> {
 // ---- The calls
 
 mod c {
-    use super::Handler;
+    use super::{BurstReport, Handler};
 
     unsafe extern "C" {
         pub fn tsendrivaty_new(handler: *mut Handler, width: u8, number: u64) -> u32;
@@ -373,6 +421,16 @@ mod c {
             expired: u8,
             out: *mut u8,
             out_length: usize,
+        ) -> u32;
+        pub fn tsendrivaty_burst(
+            handler: *mut Handler,
+            file: *const u8,
+            file_length: usize,
+            expired: u8,
+            count: usize,
+            out: *mut u8,
+            out_length: usize,
+            report: *mut BurstReport,
         ) -> u32;
         pub fn tsendrivaty_cancel(handler: *mut Handler, source_width: u8, source: u64, number_width: u8, number: u64) -> u32;
         pub fn tsendrivaty_reset(handler: *mut Handler) -> u32;
@@ -400,7 +458,7 @@ impl Handler {
     /// A handler whose first put takes this number.
     pub fn new(config: Config, number: SequenceNumber) -> Handler {
         let mut h = Handler { config, ..EMPTY };
-        // SAFETY: see the head of this file; the same holds of the five calls below.
+        // SAFETY: see the head of this file; the same holds of the six calls below.
         unsafe { c::tsendrivaty_new(&mut h, number.width, number.value) };
         h
     }
@@ -423,6 +481,17 @@ impl Handler {
         let (f, n) = (file.as_ptr(), file.len());
         answer(unsafe { c::tsendrivaty_step(self, f, n, expired.into(), out.as_mut_ptr(), out.len()) })?;
         Ok(Step { pdu: &out[..self.report.length as usize], events: Events::of(&self.report) })
+    }
+
+    /// Up to `count` steps in one call, 0 to 16, their PDUs end to end in `out`; the first step has `expired`, the others not. Handler, bytes
+    /// and events are those of the same steps made one by one. A step that emits nothing is made and ends the burst; a later one whose PDU does
+    /// not fit the rest of `out` is not made. Refusals: 32 for a count above 16, tested first, then 30 and 31 of the first step. A count of 0
+    /// makes no step and tests nothing. 65,536 bytes of `out` are enough for any burst.
+    pub fn burst<'a>(&mut self, file: &[u8], expired: bool, count: usize, out: &'a mut [u8]) -> Result<Burst<'a>, Refusal> {
+        let mut report = BurstReport { count: 0, steps: [EMPTY.report; 16] };
+        let (f, n) = (file.as_ptr(), file.len());
+        answer(unsafe { c::tsendrivaty_burst(self, f, n, expired.into(), count, out.as_mut_ptr(), out.len(), &mut report) })?;
+        Ok(Burst { report, next: 0, rest: out })
     }
 
     /// The user's cancel: true, and the EOF leaves with the next step; or false, and nothing changed.

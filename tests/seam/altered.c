@@ -9,6 +9,7 @@ uint32_t right_calls_new(H, uint8_t width, uint64_t number);
 uint32_t right_calls_put(H, uint8_t width, uint64_t to, uint8_t mode, uint8_t closure, SLICE, const uint8_t *q, size_t m, uint64_t size);
 uint32_t right_calls_deliver(H, SLICE);
 uint32_t right_calls_step(H, SLICE, uint8_t expired, uint8_t *out, size_t room);
+uint32_t right_calls_burst(H, SLICE, uint8_t expired, size_t count, uint8_t *out, size_t room, struct tsendrivaty_burst_report *report);
 uint32_t right_calls_cancel(H, uint8_t width, uint64_t source, uint8_t number_width, uint64_t number);
 uint32_t right_calls_reset(H);
 
@@ -42,6 +43,40 @@ uint32_t tsendrivaty_step(H, SLICE, uint8_t expired, uint8_t *out, size_t room) 
         h->queue.count--;
     }
     if (IS(10) && !r && h->report.length < room) out[h->report.length] ^= 1;
+    return r;
+}
+
+/* Up to sixteen steps, each with the expiry flag. */
+static uint32_t burst_of_expired(H, SLICE, size_t count, uint8_t *out, size_t room, struct tsendrivaty_burst_report *report) {
+    size_t at = 0, k = 0;
+    while (k < count) {
+        uint32_t r = right_calls_step(h, p, n, 1, out + at, room - at);
+        if (r && !k) return r;
+        if (r) break;
+        report->steps[k++] = h->report;
+        at += h->report.length;
+        if (!h->report.length) break;
+    }
+    report->count = k;
+    return 0;
+}
+
+uint32_t tsendrivaty_burst(H, SLICE, uint8_t expired, size_t count, uint8_t *out, size_t room, struct tsendrivaty_burst_report *report) {
+    if (IS(23) && expired && count <= 16) return burst_of_expired(h, p, n, count, out, room, report);
+    if (IS(15) && !count && h->step != TSENDRIVATY_IDLE && n != h->transaction.size) return TSENDRIVATY_FILE_CHANGED;
+    static const struct tsendrivaty_report none;
+    uint32_t r = right_calls_burst(h, p, n, expired, IS(13) && count == 17 ? 16 : IS(14) && count == 16 ? 15 : count, out, room, report);
+    size_t made = r ? 0 : report->count, taken = 0;
+    for (size_t i = 0; i < made; i++) taken += report->steps[i].length;
+    if (IS(16) && made > 1 && report->steps[1].length) out[report->steps[0].length] ^= 1;
+    if (IS(17) && made > 1 && !report->steps[made - 1].length) report->count--;
+    if (IS(18) && made > 1) report->steps[0].timer = report->steps[made - 1].timer;
+    if (IS(19) && made) h->report = none;
+    if (IS(20) && r) h->marks.count++;
+    if (IS(21) && made && taken < room) out[taken] ^= 1;
+    if (IS(22) && r == TSENDRIVATY_OUT_TOO_SMALL) report->count = 0, r = 0;
+    if (IS(24) && made && made < 16) report->steps[made] = none;
+    if (IS(25) && r) report->count++;
     return r;
 }
 

@@ -1,4 +1,4 @@
-/* The lists of calls of docs/HOST.md, run through the six functions: what the program `drive` does, over lent memory. So tests/random_passes.py can hold
+/* The lists of calls of docs/HOST.md, run through the seven functions: what the program `drive` does, over lent memory. So tests/random_passes.py can hold
  * thousands of random calls through the seam to the model. Standard input: four bytes of the file's length, the file, the number, the calls. */
 #include "../../include/tsendrivaty.h"
 
@@ -65,20 +65,40 @@ static void put(void) {
     say(1, tsendrivaty_put(&h, to.width, to.value, mode, closure, in + s, sn, in + d, dn, size));
 }
 
-static void step(const uint8_t *file, size_t length) {
-    uint8_t expired = (uint8_t)take(1);
-    size_t lent = take(4), room = take(4);
-    uint32_t r = tsendrivaty_step(&h, file, lent < length ? lent : length, expired, out, room < sizeof out ? room : sizeof out);
-    const struct tsendrivaty_report *e = &h.report;
-    say(1, r);
-    say(2, r ? 0 : e->length);
-    for (size_t i = 0; !r && i < e->length; i++) say(1, out[i]);
-    unsigned events = r ? 0 : e->transaction | e->eofsent << 1 | e->fault << 2 | e->finished << 3 | (e->timer == 1) << 4 | (e->timer == 2) << 5;
+static size_t least(size_t a, size_t b) {
+    return a < b ? a : b;
+}
+
+/* A step that was made: its PDU, its events. */
+static void tell(const struct tsendrivaty_report *e, const uint8_t *pdu) {
+    say(2, e->length);
+    for (size_t i = 0; i < e->length; i++) say(1, pdu[i]);
+    unsigned events = e->transaction | e->eofsent << 1 | e->fault << 2 | e->finished << 3 | (e->timer == 1) << 4 | (e->timer == 2) << 5;
     say(1, events);
     if (!events) return;
     say(1, e->source.width), say(8, e->source.value), say(1, e->number.width), say(8, e->number.value);
     if (e->fault) say(1, e->action), say(1, e->condition), say(8, e->progress);
     if (e->finished) say(1, e->values.condition), say(1, e->values.delivery), say(1, e->values.status);
+}
+
+static void step(const uint8_t *file, size_t length) {
+    static const struct tsendrivaty_report refused;
+    uint8_t expired = (uint8_t)take(1);
+    size_t lent = take(4), room = take(4);
+    uint32_t r = tsendrivaty_step(&h, file, least(lent, length), expired, out, least(room, sizeof out));
+    say(1, r);
+    tell(r ? &refused : &h.report, out);
+}
+
+static void burst(const uint8_t *file, size_t length) {
+    static struct tsendrivaty_burst_report made;
+    uint8_t expired = (uint8_t)take(1);
+    size_t count = take(1), lent = take(4), room = take(4), from = 0;
+    uint32_t r = tsendrivaty_burst(&h, file, least(lent, length), expired, count, out, least(room, sizeof out), &made);
+    if (r) made.count = 0;
+    say(1, r);
+    say(1, made.count);
+    for (size_t i = 0; i < made.count; from += made.steps[i++].length) tell(&made.steps[i], out + from);
 }
 
 int main(void) {
@@ -88,7 +108,7 @@ int main(void) {
     at += length;
     struct tsendrivaty_entity_id number = id();
     tsendrivaty_new(&h, number.width, number.value);
-    while (at < end && said < sizeof answers - 5000) {
+    while (at < end && said < sizeof answers - 6000) {
         unsigned kind = (unsigned)take(1);
         say(1, kind);
         if (kind == 1) {
@@ -102,6 +122,8 @@ int main(void) {
         } else if (kind == 4) {
             struct tsendrivaty_entity_id s = id(), n = id();
             say(1, tsendrivaty_cancel(&h, s.width, s.value, n.width, n.value));
+        } else if (kind == 6) {
+            burst(in + file, length);
         } else {
             tsendrivaty_reset(&h);
         }

@@ -1,6 +1,7 @@
-/* A test host in C: runs the six functions over one handler and prints a line for each call; tests/link compares the lines with expected.txt, whose
- * bytes are the model's. Beside that, each call is watched: a refused one may change no number of the handler and no byte of `out`, no call may touch the
- * configuration, the lent slices, bytes of `out` behind the PDU, or what lies around the handler and `out`. host.rs prints the same. */
+/* A test host in C: runs the seven functions over one handler and prints a line for each call; tests/link compares the lines with expected.txt, whose
+ * bytes are the model's. Beside that, each call is watched: a refused one may change no number of the handler or of a burst's report and no byte of
+ * `out`, no call may touch the configuration, the lent slices, bytes of `out` behind the PDU, or what lies around the handler, the report and `out`; a
+ * burst must leave what the same steps leave, made one by one. host.rs prints the same. */
 #include "../../include/tsendrivaty.h"
 
 int printf(const char *, ...); /* by hand: the kit's compiler has no headers of the C library */
@@ -9,22 +10,32 @@ void *memcpy(void *, const void *, size_t);
 void *memset(void *, int, size_t);
 
 #define ROOM 4608
+#define FRAME 65536 /* enough for any burst */
 #define EDGE 64
 
-static struct {
+static struct memory {
     uint8_t before[EDGE];
     struct tsendrivaty_handler h;
     uint8_t between[EDGE];
-    uint8_t out[ROOM];
-    uint8_t behind[EDGE];
+    struct tsendrivaty_burst_report r;
+    uint8_t beside[EDGE];
+    uint8_t out[FRAME + EDGE];
 } m, was;
+static size_t room = ROOM; /* so much of `out` may be lent; behind it lies an edge */
 static const uint8_t *file = (const uint8_t *)"ABCDEFGHIJKLMNOPQRST";
 static size_t lent;
 static int wrong;
 
 /* ---- watching */
 
-/* Whether two handlers hold the same numbers: bytes of padding count for nothing. */
+/* Bytes of padding count for nothing. */
+static void without_padding(struct tsendrivaty_report *r) {
+    memset(&r->source.width + 1, 0, 7);
+    memset(&r->number.width + 1, 0, 7);
+    memset(&r->timer + 1, 0, 6);
+}
+
+/* Whether two handlers hold the same numbers. */
 static int same(const struct tsendrivaty_handler *a, const struct tsendrivaty_handler *b) {
     static struct tsendrivaty_handler x, y;
     struct tsendrivaty_handler *both[2] = {&x, &y};
@@ -32,10 +43,10 @@ static int same(const struct tsendrivaty_handler *a, const struct tsendrivaty_ha
     memcpy(&y, b, sizeof y);
     for (int k = 0; k < 2; k++) {
         struct tsendrivaty_handler *h = both[k];
-        struct tsendrivaty_entity_id *ids[] = {&h->config.id, &h->transaction.source, &h->transaction.destination, &h->report.source};
-        struct tsendrivaty_sequence_number *numbers[] = {&h->number, &h->transaction.number, &h->report.number};
-        for (int i = 0; i < 4; i++) memset(&ids[i]->width + 1, 0, 7);
-        for (int i = 0; i < 3; i++) memset(&numbers[i]->width + 1, 0, 7);
+        struct tsendrivaty_entity_id *ids[] = {&h->config.id, &h->transaction.source, &h->transaction.destination};
+        struct tsendrivaty_sequence_number *numbers[] = {&h->number, &h->transaction.number};
+        for (int i = 0; i < 3; i++) memset(&ids[i]->width + 1, 0, 7);
+        for (int i = 0; i < 2; i++) memset(&numbers[i]->width + 1, 0, 7);
         for (int i = 0; i < 8; i++) {
             memset(&h->config.remotes[i].id.width + 1, 0, 7);
             memset(&h->config.remotes[i].limit + 1, 0, 3);
@@ -43,24 +54,75 @@ static int same(const struct tsendrivaty_handler *a, const struct tsendrivaty_ha
         memset(&h->config.finished + 1, 0, 6);
         memset(&h->step + 1, 0, 7);
         memset(&h->file.eof.condition + 1, 0, 3);
-        memset(&h->report.timer + 1, 0, 6);
+        without_padding(&h->report);
     }
     return memcmp(&x, &y, sizeof x) == 0;
 }
 
-static void watch(void) {
-    memcpy(&was, &m, sizeof m);
+/* The same of reports. */
+static int same_report(const struct tsendrivaty_report *a, const struct tsendrivaty_report *b) {
+    struct tsendrivaty_report x, y;
+    memcpy(&x, a, sizeof x);
+    memcpy(&y, b, sizeof y);
+    without_padding(&x);
+    without_padding(&y);
+    return memcmp(&x, &y, sizeof x) == 0;
 }
 
-/* `length` bytes of `out` may be new. */
-static void watched(int refused, size_t length) {
-    int ok = memcmp(m.before, was.before, EDGE) == 0 && memcmp(m.between, was.between, EDGE) == 0 && memcmp(m.behind, was.behind, EDGE) == 0;
+static int same_reports(const struct tsendrivaty_burst_report *a, const struct tsendrivaty_burst_report *b) {
+    int ok = a->count == b->count;
+    for (int i = 0; i < 16; i++) ok = ok && same_report(&a->steps[i], &b->steps[i]);
+    return ok;
+}
+
+static void watch(void) {
+    memcpy(&was, &m, offsetof(struct memory, out) + room + EDGE);
+}
+
+/* Whether no more has changed than may: `length` bytes of `out`, and the report where the call is a burst. */
+static int kept(int refused, int burst, size_t length) {
     struct tsendrivaty_handler h = was.h;
     memcpy(&h.config, &m.h.config, sizeof h.config);
-    ok = ok && same(&h, &was.h) && length <= ROOM && memcmp(m.out + length, was.out + length, ROOM - length) == 0;
-    if (refused) ok = ok && length == 0 && same(&m.h, &was.h);
+    return memcmp(m.before, was.before, EDGE) == 0 && memcmp(m.between, was.between, EDGE) == 0 && memcmp(m.beside, was.beside, EDGE) == 0
+        && same(&h, &was.h) && length <= room && memcmp(m.out + length, was.out + length, room + EDGE - length) == 0
+        && (burst ? !refused || same_reports(&m.r, &was.r) : memcmp(&m.r, &was.r, sizeof m.r) == 0)
+        && (!refused || (length == 0 && same(&m.h, &was.h)));
+}
+
+/* The end of a call's line. */
+static void ended(int ok) {
     if (!ok) wrong++;
     printf(ok ? "\n" : " CHANGED\n");
+}
+
+static void watched(int refused, size_t length) {
+    ended(kept(refused, 0, length));
+}
+
+/* ---- a burst beside the same steps one by one */
+
+/* Of a burst from `was` to `m`: whether it answered, told and left what it must, by single steps on another handler. Places of the report without a
+ * step stay. */
+static int as_steps(uint32_t answer, size_t length, uint8_t expired, size_t count, size_t space) {
+    static struct tsendrivaty_handler one;
+    static struct tsendrivaty_burst_report made;
+    static uint8_t out[FRAME];
+    size_t at = 0;
+    uint32_t r = count > 16 ? TSENDRIVATY_BURST_TOO_LONG : 0;
+    memcpy(&one, &was.h, sizeof one);
+    memcpy(out, was.out, space);
+    memcpy(&made, &was.r, sizeof made);
+    made.count = 0;
+    for (size_t k = 0; !r && k < count; k++) {
+        r = tsendrivaty_step(&one, file, length, k ? 0 : expired, out + at, space - at);
+        if (r) break;
+        made.steps[made.count++] = one.report;
+        at += one.report.length;
+        if (!one.report.length) break;
+    }
+    if (made.count) r = 0;
+    if (r) return answer == r && kept(1, 1, 0);
+    return answer == 0 && same_reports(&m.r, &made) && same(&m.h, &one) && memcmp(m.out, out, space) == 0 && kept(0, 1, at);
 }
 
 /* ---- calls, each a line */
@@ -97,28 +159,58 @@ static void deliver(const uint8_t *pdu, size_t n) {
     watched(r != 0, 0);
 }
 
-static void step_in(size_t length, int expired, size_t room) {
-    watch();
-    uint32_t r = tsendrivaty_step(&m.h, file, length, (uint8_t)expired, m.out, room);
-    const struct tsendrivaty_report *e = &m.h.report;
-    size_t n = r ? 0 : e->length;
-    printf("step %u ", r);
-    for (size_t i = 0; i < n && i < ROOM; i++) printf("%02x", m.out[i]);
+/* A PDU's bytes; of a long one the first sixteen, its length, and a sum over all (FNV-1a). */
+static void show(const uint8_t *pdu, size_t n) {
+    uint32_t sum = 2166136261u;
+    for (size_t i = 0; i < n; i++) sum = (sum ^ pdu[i]) * 16777619u;
+    for (size_t i = 0; i < (n > 64 ? 16 : n); i++) printf("%02x", pdu[i]);
+    if (n > 64) printf("..%lu:%08x", (unsigned long)n, sum);
     if (!n) printf("-");
-    if (!r) {
-        if (e->transaction) printf(" transaction");
-        if (e->eofsent) printf(" eof-sent");
-        if (e->fault) printf(" fault %u %u %lu", e->action, e->condition, (unsigned long)e->progress);
-        if (e->finished) printf(" finished %u %u %u", e->values.condition, e->values.delivery, e->values.status);
-        if (e->timer) printf(e->timer == TSENDRIVATY_ACK_TIMER ? " ack-timer" : " check-timer");
-        if (e->transaction || e->eofsent || e->fault || e->finished || e->timer)
-            printf(" of %u:%lu %u:%lu", e->source.width, (unsigned long)e->source.value, e->number.width, (unsigned long)e->number.value);
-    }
+}
+
+static void tell(const struct tsendrivaty_report *e) {
+    if (e->transaction) printf(" transaction");
+    if (e->eofsent) printf(" eof-sent");
+    if (e->fault) printf(" fault %u %u %lu", e->action, e->condition, (unsigned long)e->progress);
+    if (e->finished) printf(" finished %u %u %u", e->values.condition, e->values.delivery, e->values.status);
+    if (e->timer) printf(e->timer == TSENDRIVATY_ACK_TIMER ? " ack-timer" : " check-timer");
+    if (e->transaction || e->eofsent || e->fault || e->finished || e->timer)
+        printf(" of %u:%lu %u:%lu", e->source.width, (unsigned long)e->source.value, e->number.width, (unsigned long)e->number.value);
+}
+
+static void step_in(size_t length, int expired, size_t space) {
+    watch();
+    uint32_t r = tsendrivaty_step(&m.h, file, length, (uint8_t)expired, m.out, space);
+    size_t n = r ? 0 : m.h.report.length;
+    printf("step %u ", r);
+    show(m.out, n < room ? n : room);
+    if (!r) tell(&m.h.report);
     watched(r != 0, n);
 }
 
 static void steps(int n, int expired) {
-    while (n--) step_in(lent, expired, ROOM);
+    while (n--) step_in(lent, expired, room);
+}
+
+/* One line more for each step made. */
+static void burst_in(size_t length, int expired, size_t count, size_t space) {
+    watch();
+    uint32_t r = tsendrivaty_burst(&m.h, file, length, (uint8_t)expired, count, m.out, space, &m.r);
+    size_t at = 0, made = r ? 0 : m.r.count;
+    printf("burst %u %lu", r, (unsigned long)made);
+    for (size_t i = 0; i < made && i < 16; i++) {
+        size_t n = m.r.steps[i].length;
+        if (n > room - at) n = room - at;
+        printf("\n    ");
+        show(m.out + at, n);
+        tell(&m.r.steps[i]);
+        at += n;
+    }
+    ended(as_steps(r, length, (uint8_t)expired, count, space));
+}
+
+static void burst(size_t count, int expired) {
+    burst_in(lent, expired, count, room);
 }
 
 static void cancel(uint64_t source, uint64_t number) {
@@ -136,12 +228,16 @@ static void reset(void) {
 }
 
 /* Deliveries of the transaction 1, NUMBER, 2 without CRC. */
-static void directive(uint8_t number, const uint8_t *body, size_t n) {
-    static uint8_t pdu[2048];
+static size_t framed(uint8_t *pdu, uint8_t number, const uint8_t *body, size_t n) {
     const uint8_t head[] = {0x28, (uint8_t)(n >> 8), (uint8_t)n, 0, 1, number, 2};
     memcpy(pdu, head, sizeof head);
     memcpy(pdu + sizeof head, body, n);
-    deliver(pdu, sizeof head + n);
+    return sizeof head + n;
+}
+
+static void directive(uint8_t number, const uint8_t *body, size_t n) {
+    static uint8_t pdu[2048];
+    deliver(pdu, framed(pdu, number, body, n));
 }
 
 static void nak(uint8_t number, const uint32_t *pairs, size_t n) {
@@ -265,6 +361,90 @@ static void wide(void) {
     steps(1, 255);
 }
 
+static void bursts(void) {
+    fresh("M1 to M4 in one burst", 1, 7, 5);
+    put(1, 0);
+    burst(16, 0);
+    burst(16, 0);
+    fresh("M1 to M4 in a buffer of 60 bytes", 1, 7, 5);
+    put(1, 0);
+    burst_in(5, 0, 16, 60);
+    burst_in(5, 0, 16, 60);
+}
+
+static void short_bursts(void) {
+    fresh("bursts that are refused, bursts that end early", 1, 7, 5);
+    burst(17, 0);
+    burst((size_t)-1, 1);
+    burst_in(0, 0, 17, 0);
+    burst(0, 0);
+    burst_in(4, 1, 16, 0);
+    put(0, 2);
+    burst(17, 0);
+    burst_in(4, 1, 17, 0);
+    burst_in(4, 1, 0, 0);
+    burst_in(4, 0, 16, ROOM);
+    burst_in(5, 0, 16, 16);
+    burst_in(5, 0, 1, 0);
+    burst_in(5, 0, 16, 17);
+    burst_in(4, 1, 0, ROOM);
+    burst_in(5, 0, 16, 26);
+    nak(7, (const uint32_t[]){0, 4, 0, 0, 1, 4}, 3);
+    burst(2, 1);
+    burst_in(5, 0, 16, 13);
+    burst(3, 0);
+    burst_in(5, 1, 16, 16);
+    burst_in(5, 1, 16, 17);
+}
+
+static void bursts_with_expiry(void) {
+    fresh("the expiry of a burst is its first step's", 1, 7, 5);
+    put(0, 2);
+    burst(3, 1);
+    burst(16, 1);
+    burst(16, 1);
+    nak(7, (const uint32_t[]){0, 5}, 1);
+    burst(16, 1);
+    burst(16, 0);
+    burst(16, 1);
+    burst(1, 1);
+    burst(16, 1);
+    put(0, 2);
+    burst(16, 0);
+    nak(8, (const uint32_t[]){0, 5, 0, 0}, 2);
+    ack_of_eof(8);
+    burst(2, 0);
+    finished(8, 0x02);
+    burst(16, 0);
+    burst(0, 0);
+    put(1, 1);
+    burst(4, 0);
+    cancel(1, 9);
+    burst(1, 1);
+    burst(16, 1);
+}
+
+static void long_bursts(void) {
+    static uint8_t big[65400];
+    const uint8_t *small = file;
+    for (size_t i = 0; i < sizeof big; i++) big[i] = (uint8_t)(i * 7 + i / 256);
+    file = big;
+    room = FRAME;
+    fresh("sixteen data PDUs of 4,096 bytes in 65,536 bytes", 1, 7, sizeof big);
+    m.h.config.remotes[0].maxpacket = m.h.config.remotes[0].maxsegment = 4096;
+    m.h.config.remotes[0].checksum = TSENDRIVATY_CRC32;
+    put(0, 2);
+    burst(1, 0);
+    burst(16, 0);
+    burst(16, 0);
+    nak(7, (const uint32_t[]){40, 65400}, 1);
+    burst_in(lent, 1, 16, FRAME - 1);
+    burst(16, 1);
+    burst(16, 1);
+    file = small;
+    room = ROOM;
+}
+
 /* ---- memory that holds anything at all: every call returns one of document 01's numbers, and is watched as above */
 
 static uint64_t seed;
@@ -308,7 +488,7 @@ static size_t some_pdu(uint8_t *p) {
 }
 
 static int known(uint32_t r) {
-    return r <= 8 || (r >= 20 && r <= 25) || r == 30 || r == 31;
+    return r <= 8 || (r >= 20 && r <= 25) || (r >= 30 && r <= 32);
 }
 
 static int one_call(int call) {
@@ -317,10 +497,10 @@ static int one_call(int call) {
     size_t n = 0;
     watch();
     if (call == 0) {
-        size_t room = some() % 4 ? ROOM : some() % 40;
-        r = tsendrivaty_step(&m.h, file, some() % 9 ? lent : some() % 21, (uint8_t)some(), m.out, room);
+        size_t space = some() % 4 ? room : some() % 40;
+        r = tsendrivaty_step(&m.h, file, some() % 9 ? lent : some() % 21, (uint8_t)some(), m.out, space);
         n = r ? 0 : m.h.report.length;
-        if (n > room) return 0;
+        if (n > space) return 0;
     } else if (call == 1) {
         n = some_pdu(bytes);
         r = tsendrivaty_deliver(&m.h, bytes, n);
@@ -335,13 +515,15 @@ static int one_call(int call) {
         r = !tsendrivaty_cancel(&m.h, (uint8_t)some(), m.h.transaction.source.value, (uint8_t)some(), m.h.transaction.number.value);
     } else if (call == 4) {
         r = tsendrivaty_reset(&m.h);
-    } else {
+    } else if (call == 5) {
         r = tsendrivaty_new(&m.h, (uint8_t)some(), some());
+    } else {
+        size_t space = some() % 4 ? room : some() % 150, length = some() % 9 ? lent : some() % 21, count = some() % 16 ? some() % 18 : some();
+        uint8_t expired = (uint8_t)some();
+        r = tsendrivaty_burst(&m.h, file, length, expired, count, m.out, space, &m.r);
+        return known(r) && as_steps(r, length, expired, count, space);
     }
-    struct tsendrivaty_handler h = was.h;
-    memcpy(&h.config, &m.h.config, sizeof h.config);
-    return known(r) && memcmp(m.before, was.before, EDGE) == 0 && memcmp(m.between, was.between, EDGE) == 0 && memcmp(m.behind, was.behind, EDGE) == 0
-        && same(&h, &was.h) && memcmp(m.out + n, was.out + n, ROOM - n) == 0 && (r == 0 || same(&m.h, &was.h));
+    return known(r) && kept(r != 0, 0, n);
 }
 
 static void garbage(int way, const char *label, int rounds) {
@@ -351,10 +533,79 @@ static void garbage(int way, const char *label, int rounds) {
     memset(&m, 0xA5, sizeof m);
     for (int i = 0; i < rounds; i++) {
         filled(way);
-        for (int k = 0; k < 12; k++, calls++) good += one_call(k < 6 ? k : (int)(some() % 6));
+        for (int k = 0; k < 14; k++, calls++) good += one_call(k < 7 ? (k + i) % 7 : (int)(some() % 7)); /* each in its turn is the first */
     }
     printf("garbage, %s: %d of %d calls returned as they must\n", label, good, calls);
     wrong += good != calls;
+}
+
+/* ---- random passes on a handler that began as a new one: every burst is what the same steps are, one by one */
+
+static void random_put(void) {
+    static const uint8_t sums[4] = {TSENDRIVATY_MODULAR, TSENDRIVATY_CRC32C, TSENDRIVATY_CRC32, TSENDRIVATY_NULL};
+    static const uint8_t actions[3] = {TSENDRIVATY_CANCEL, TSENDRIVATY_IGNORE, TSENDRIVATY_ABANDON};
+    struct tsendrivaty_config *c = &m.h.config;
+    lent = some() % 21;
+    c->remotes[0] = (struct tsendrivaty_remote){.id = {1, 2}, .maxpacket = 24 + some() % 30, .maxsegment = 1 + some() % 4};
+    c->remotes[0].limit = (uint8_t)(some() % 4);
+    c->remotes[0].checksum = sums[some() % 4];
+    c->remotes[0].crc = some() % 2;
+    for (int i = 0; i < 16; i++) c->actions[i] = actions[some() % 3];
+    c->eofsent = some() % 4 != 0;
+    c->finished = some() % 4 != 0;
+    tsendrivaty_put(&m.h, 1, 2, some() % 3 == 0, some() % 2, (const uint8_t *)"a", 1, (const uint8_t *)"b", 1, lent);
+}
+
+/* A NAK of bytes that have left, an ACK of the EOF or a Finished; the two last most often at their time. */
+static void random_delivery(void) {
+    static uint8_t pdu[200], body[100];
+    uint64_t top = m.h.file.progress + 1, kind = some() % 8;
+    size_t n = 3;
+    memset(body, 0, sizeof body);
+    if (kind == 0 || m.h.step == TSENDRIVATY_WAITING_FOR_EOF_ACK) body[0] = 6, body[1] = 0x40, body[2] = 1;
+    if (kind == 1 || m.h.step == TSENDRIVATY_WAITING_FOR_FINISHED) body[0] = 5, body[1] = 2, n = 2;
+    if (kind > 3 || !body[0]) {
+        body[0] = 8;
+        n = 9;
+        for (uint64_t k = 1 + some() % 6; k; k--, n += 8) {
+            uint64_t start = some() % top;
+            body[n + 3] = (uint8_t)start;
+            body[n + 7] = (uint8_t)(start + some() % (top - start));
+        }
+    }
+    tsendrivaty_deliver(&m.h, pdu, framed(pdu, (uint8_t)m.h.transaction.number.value, body, n));
+}
+
+/* One burst, behind perhaps a put, a delivery, a cancel or a reset. */
+static int random_burst(size_t *made) {
+    uint64_t dice = some() % 64;
+    if (m.h.step == TSENDRIVATY_IDLE && dice % 8) random_put();
+    if (dice == 1) tsendrivaty_reset(&m.h);
+    if (dice == 2) tsendrivaty_cancel(&m.h, 1, m.h.transaction.source.value, 1, m.h.transaction.number.value);
+    if (dice >= 16) random_delivery();
+    size_t space = some() % 2 ? room : some() % 250, length = some() % 16 ? lent : some() % 21;
+    size_t count = some() % 8 ? 1 + some() % 16 : some() % 20;
+    uint8_t expired = some() % 3 == 0;
+    m.out[some() % 250] = (uint8_t)some();
+    m.r.steps[some() % 16].length = some();
+    watch();
+    uint32_t r = tsendrivaty_burst(&m.h, file, length, expired, count, m.out, space, &m.r);
+    if (!r) *made += m.r.count;
+    return as_steps(r, length, expired, count, space);
+}
+
+static void one_by_one(int rounds) {
+    size_t made = 0;
+    int good = 0;
+    seed = 0xD1B54A32D192ED03;
+    memset(&m, 0xA5, sizeof m);
+    memset(&m.h.config, 0, sizeof m.h.config);
+    m.h.config.id = (struct tsendrivaty_entity_id){1, 1};
+    m.h.config.count = 1;
+    tsendrivaty_new(&m.h, 1, 7);
+    for (int i = 0; i < rounds; i++) good += random_burst(&made);
+    printf("one by one: %d of %d bursts as their steps\n", good, rounds);
+    wrong += good != rounds || made < (size_t)rounds;
 }
 
 int main(void) {
@@ -363,8 +614,13 @@ int main(void) {
     refusals();
     cancels();
     wide();
+    bursts();
+    short_bursts();
+    bursts_with_expiry();
+    long_bursts();
     garbage(0, "every byte 255", 4);
     garbage(1, "random", 200);
     garbage(2, "random, near a state", 1000);
+    one_by_one(8000);
     return wrong != 0;
 }

@@ -7,39 +7,51 @@
 mod tsendrivaty;
 
 use core::mem::{size_of, transmute};
-use tsendrivaty::{At, Config, EntityId, Events, Handler, Put, Refusal, Remote, SequenceNumber, Timer};
+use tsendrivaty::{At, Burst, Config, EntityId, Events, Handler, Put, Refusal, Remote, SequenceNumber, Timer};
 
 const ROOM: usize = 4608;
+/// Enough for any burst.
+const FRAME: usize = 65536;
 const FILE: &[u8] = b"ABCDEFGHIJKLMNOPQRST";
 const EDGE: [u8; 64] = [0xA5; 64];
 
-/// What a call may touch, with what lies around it.
+/// What a call may touch, with what lies around it; of `out` the last 64 bytes are never lent.
+#[derive(Clone)]
+struct Memory {
+    around: Around,
+    out: Vec<u8>,
+}
+
 #[derive(Clone, Copy)]
 #[repr(C)]
-struct Memory {
+struct Around {
     before: [u8; 64],
     h: Handler,
-    between: [u8; 64],
-    out: [u8; ROOM],
     behind: [u8; 64],
 }
 
 impl Memory {
-    fn of(h: Handler) -> Memory {
-        Memory { before: EDGE, h, between: EDGE, out: [0xA5; ROOM], behind: EDGE }
+    fn of(h: Handler, room: usize) -> Memory {
+        Memory { around: Around { before: EDGE, h, behind: EDGE }, out: vec![0xA5; room + EDGE.len()] }
+    }
+
+    fn room(&self) -> usize {
+        self.out.len() - EDGE.len()
     }
 
     /// Whether the call from `was` to here changed no more than it may; `length` bytes of `out` may be new.
     fn kept(&self, was: &Memory, refused: bool, length: usize) -> bool {
-        (self.before, self.between, self.behind) == (was.before, was.between, was.behind)
-            && self.h.config == was.h.config
+        let (now, then) = (&self.around, &was.around);
+        (now.before, now.behind) == (then.before, then.behind)
+            && now.h.config == then.h.config
             && self.out[length..] == was.out[length..]
-            && (!refused || length == 0 && self.h == was.h)
+            && (!refused || length == 0 && now.h == then.h)
     }
 }
 
 struct Host {
     m: Memory,
+    file: Vec<u8>,
     lent: usize,
     wrong: bool,
 }
@@ -73,12 +85,70 @@ fn told(e: &Events) -> String {
     s
 }
 
+fn digits(bytes: &[u8]) -> String {
+    bytes.iter().map(|b| format!("{b:02x}")).collect()
+}
+
+/// A PDU's bytes; of a long one the first sixteen, its length, and a sum over all (FNV-1a).
 fn hex(pdu: &[u8]) -> String {
-    if pdu.is_empty() {
-        "-".into()
-    } else {
-        pdu.iter().map(|b| format!("{b:02x}")).collect()
+    match pdu.len() {
+        0 => "-".into(),
+        1..=64 => digits(pdu),
+        n => {
+            let sum = pdu.iter().fold(2166136261u32, |sum, b| (sum ^ *b as u32).wrapping_mul(16777619));
+            format!("{}..{n}:{sum:08x}", digits(&pdu[..16]))
+        }
     }
+}
+
+// ---- a burst beside the same steps one by one
+
+type Made = Vec<(Vec<u8>, Events)>;
+
+/// The steps of a burst; what it says of itself must agree.
+fn made(b: Burst) -> Made {
+    let (count, pdus) = (b.len(), b.pdus());
+    let made: Made = b.map(|s| (s.pdu.to_vec(), s.events)).collect();
+    assert!(count == made.len() && pdus == made.iter().flat_map(|(pdu, _)| pdu.clone()).collect::<Vec<u8>>());
+    made
+}
+
+/// What a burst must give, and the memory that it must leave.
+fn one_by_one(m: &mut Memory, file: &[u8], expired: bool, count: usize, space: usize) -> Result<Made, Refusal> {
+    let (mut made, mut at) = (Made::new(), 0);
+    if count > 16 {
+        return Err(Refusal::BurstTooLong);
+    }
+    while made.len() < count {
+        let s = match m.around.h.step(file, expired && made.is_empty(), &mut m.out[at..space]) {
+            Ok(s) => s,
+            Err(r) if made.is_empty() => return Err(r),
+            Err(_) => break,
+        };
+        let n = s.pdu.len();
+        made.push((s.pdu.to_vec(), s.events));
+        at += n;
+        if n == 0 {
+            break;
+        }
+    }
+    Ok(made)
+}
+
+/// A burst, and whether it gave and left what it must.
+fn burst_on(m: &mut Memory, file: &[u8], expired: bool, count: usize, space: usize) -> (Result<Made, Refusal>, bool) {
+    let (was, mut one) = (m.clone(), m.clone());
+    let got = m.around.h.burst(file, expired, count, &mut m.out[..space]).map(made);
+    let want = one_by_one(&mut one, file, expired, count, space);
+    let good = match &got {
+        Ok(made) => {
+            let n = made.iter().map(|(pdu, _)| pdu.len()).sum();
+            m.kept(&was, false, n) && m.around.h == one.around.h && m.out == one.out
+        }
+        Err(_) => m.kept(&was, true, 0),
+    };
+    let good = good && got == want;
+    (got, good)
 }
 
 // ---- calls, each a line
@@ -88,18 +158,23 @@ impl Host {
         println!("== {label}");
         let remote = Remote { id: EntityId { width: 1, value: 2 }, maxpacket: 17, maxsegment: 4, limit: 2, ..Remote::NONE };
         let config = Config::to(EntityId { width: 1, value: 1 }, remote);
-        self.m = Memory::of(Handler::new(config, SequenceNumber { width, value }));
+        self.m = Memory::of(Handler::new(config, SequenceNumber { width, value }), self.m.room());
         self.lent = lent;
     }
 
     fn line(&mut self, was: &Memory, said: String, refused: bool, length: usize) {
-        let kept = self.m.kept(was, refused, length);
-        self.wrong |= !kept;
-        println!("{said}{}", if kept { "" } else { " CHANGED" });
+        print!("{said}");
+        self.ended(self.m.kept(was, refused, length));
+    }
+
+    /// The end of a call's line.
+    fn ended(&mut self, good: bool) {
+        self.wrong |= !good;
+        println!("{}", if good { "" } else { " CHANGED" });
     }
 
     fn put_to(&mut self, to: (u8, u64), unacknowledged: Option<bool>, closure: Option<bool>, source: &[u8], destination: &[u8]) {
-        let was = self.m;
+        let was = self.m.clone();
         let destination_id = EntityId { width: to.0, value: to.1 };
         let p = Put {
             destination: destination_id,
@@ -109,7 +184,7 @@ impl Host {
             destination_name: destination,
             size: self.lent as u64,
         };
-        let r = number(self.m.h.put(&p));
+        let r = number(self.m.around.h.put(&p));
         self.line(&was, format!("put {r}"), r != 0, 0);
     }
 
@@ -118,14 +193,14 @@ impl Host {
     }
 
     fn deliver(&mut self, pdu: &[u8]) {
-        let was = self.m;
-        let r = number(self.m.h.deliver(pdu));
+        let was = self.m.clone();
+        let r = number(self.m.around.h.deliver(pdu));
         self.line(&was, format!("deliver {r}"), r != 0, 0);
     }
 
     fn step_in(&mut self, length: usize, expired: bool, room: usize) {
-        let was = self.m;
-        let (said, refused, n) = match self.m.h.step(&FILE[..length], expired, &mut self.m.out[..room]) {
+        let was = self.m.clone();
+        let (said, refused, n) = match self.m.around.h.step(&self.file[..length], expired, &mut self.m.out[..room]) {
             Ok(s) => (format!("step 0 {}{}", hex(s.pdu), told(&s.events)), false, s.pdu.len()),
             Err(r) => (format!("step {} -", r.number()), true, 0),
         };
@@ -134,19 +209,37 @@ impl Host {
 
     fn steps(&mut self, n: usize, expired: bool) {
         for _ in 0..n {
-            self.step_in(self.lent, expired, ROOM);
+            self.step_in(self.lent, expired, self.m.room());
         }
     }
 
+    fn burst_in(&mut self, length: usize, expired: bool, count: usize, room: usize) {
+        let (got, good) = burst_on(&mut self.m, &self.file[..length], expired, count, room);
+        match got {
+            Ok(made) => {
+                print!("burst 0 {}", made.len());
+                for (pdu, events) in made {
+                    print!("\n    {}{}", hex(&pdu), told(&events));
+                }
+            }
+            Err(r) => print!("burst {} 0", r.number()),
+        }
+        self.ended(good);
+    }
+
+    fn burst(&mut self, count: usize, expired: bool) {
+        self.burst_in(self.lent, expired, count, self.m.room());
+    }
+
     fn cancel(&mut self, source: u64, number: u64) {
-        let was = self.m;
-        let yes = self.m.h.cancel(EntityId { width: 1, value: source }, SequenceNumber { width: 1, value: number });
+        let was = self.m.clone();
+        let yes = self.m.around.h.cancel(EntityId { width: 1, value: source }, SequenceNumber { width: 1, value: number });
         self.line(&was, format!("cancel {}", if yes { "yes" } else { "no" }), !yes, 0);
     }
 
     fn reset(&mut self) {
-        let was = self.m;
-        self.m.h.reset();
+        let was = self.m.clone();
+        self.m.around.h.reset();
         self.line(&was, "reset".into(), false, 0);
     }
 
@@ -180,7 +273,7 @@ impl Host {
         self.fresh("M1 to M4", 1, 7, 5);
         self.put(true, Some(false));
         self.steps(4, false);
-        self.wrong |= !self.m.h.is_idle();
+        self.wrong |= !self.m.around.h.is_idle();
         self.steps(1, false);
     }
 
@@ -189,7 +282,7 @@ impl Host {
         self.put(false, None);
         self.steps(3, false);
         self.nak(7, &[(0, 7), (0, 0), (3, 3), (1, 8)]);
-        self.wrong |= (self.m.h.progress(), self.m.h.pending(), self.m.h.at()) != (8, 3, At::SendingFileData);
+        self.wrong |= (self.m.around.h.progress(), self.m.around.h.pending(), self.m.around.h.at()) != (8, 3, At::SendingFileData);
         self.steps(6, true);
         self.nak(7, &[(0, 12)]);
         self.steps(6, false);
@@ -198,7 +291,7 @@ impl Host {
         self.ack_of_eof(7);
         self.steps(7, true);
         self.finished(7, 0x02);
-        self.wrong |= self.m.h.at() != At::Closing;
+        self.wrong |= self.m.around.h.at() != At::Closing;
         self.steps(2, false);
     }
 
@@ -207,15 +300,15 @@ impl Host {
         self.fresh("every refusal", 1, 7, 5);
         self.put_to((3, 2), f, f, b"a", b"b");
         self.put_to((1, 3), f, f, b"a", b"b");
-        self.m.h.config.actions[3] = 2;
+        self.m.around.h.config.actions[3] = 2;
         self.put(false, f);
-        self.m.h.config.actions[3] = 1;
+        self.m.around.h.config.actions[3] = 1;
         self.put_to((1, 2), f, f, b"", b"b");
         self.put_to((1, 2), f, f, b"\xC0\x80", b"b");
         self.put_to((1, 2), f, f, b"a", b"\xED\xA0\x80");
-        self.m.h.config.remotes[0].maxpacket = 16;
+        self.m.around.h.config.remotes[0].maxpacket = 16;
         self.put(false, f);
-        self.m.h.config.remotes[0].maxpacket = 17;
+        self.m.around.h.config.remotes[0].maxpacket = 17;
         self.put(false, f);
         self.put(false, f);
         self.step_in(4, false, ROOM);
@@ -252,7 +345,7 @@ impl Host {
         self.finished(255, 0xF5);
         self.cancel(1, 255);
         self.steps(2, false);
-        self.wrong |= self.m.h.next_number() != SequenceNumber { width: 1, value: 0 };
+        self.wrong |= self.m.around.h.next_number() != SequenceNumber { width: 1, value: 0 };
         self.put(true, Some(false));
         self.steps(2, false);
         self.reset();
@@ -264,7 +357,7 @@ impl Host {
 
     fn wide(&mut self) {
         self.fresh("wide numbers, CRCs, faults", 8, u64::MAX, 20);
-        let c = &mut self.m.h.config;
+        let c = &mut self.m.around.h.config;
         c.id = EntityId { width: 2, value: 0x1234 };
         c.count = 9;
         c.remotes[7] = Remote {
@@ -282,14 +375,93 @@ impl Host {
         self.steps(5, false);
         self.steps(2, true);
         self.reset();
-        self.m.h.config.actions[1] = 1;
-        self.m.h.config.remotes[7].checksum = 3;
+        self.m.around.h.config.actions[1] = 1;
+        self.m.around.h.config.remotes[7].checksum = 3;
         put(self);
         self.steps(5, false);
         self.steps(2, true);
         put(self);
         self.deliver(b"\x2A\x00\x07\x37\x00\x00\x12\x34\x00\x00\x00\x00\x00\x00\x00\x01\x89\xAB\xCD\xEF\x0C\x00\x00\x00\x00\xAA\xB6");
         self.steps(1, true);
+    }
+
+    fn bursts(&mut self) {
+        self.fresh("M1 to M4 in one burst", 1, 7, 5);
+        self.put(true, Some(false));
+        self.burst(16, false);
+        self.burst(16, false);
+        self.fresh("M1 to M4 in a buffer of 60 bytes", 1, 7, 5);
+        self.put(true, Some(false));
+        self.burst_in(5, false, 16, 60);
+        self.burst_in(5, false, 16, 60);
+    }
+
+    fn short_bursts(&mut self) {
+        self.fresh("bursts that are refused, bursts that end early", 1, 7, 5);
+        self.burst(17, false);
+        self.burst(usize::MAX, true);
+        self.burst_in(0, false, 17, 0);
+        self.burst(0, false);
+        self.burst_in(4, true, 16, 0);
+        self.put(false, None);
+        self.burst(17, false);
+        self.burst_in(4, true, 17, 0);
+        self.burst_in(4, true, 0, 0);
+        self.burst_in(4, false, 16, ROOM);
+        self.burst_in(5, false, 16, 16);
+        self.burst_in(5, false, 1, 0);
+        self.burst_in(5, false, 16, 17);
+        self.burst_in(4, true, 0, ROOM);
+        self.burst_in(5, false, 16, 26);
+        self.nak(7, &[(0, 4), (0, 0), (1, 4)]);
+        self.burst(2, true);
+        self.burst_in(5, false, 16, 13);
+        self.burst(3, false);
+        self.burst_in(5, true, 16, 16);
+        self.burst_in(5, true, 16, 17);
+    }
+
+    fn bursts_with_expiry(&mut self) {
+        self.fresh("the expiry of a burst is its first step's", 1, 7, 5);
+        self.put(false, None);
+        self.burst(3, true);
+        self.burst(16, true);
+        self.burst(16, true);
+        self.nak(7, &[(0, 5)]);
+        self.burst(16, true);
+        self.burst(16, false);
+        self.burst(16, true);
+        self.burst(1, true);
+        self.burst(16, true);
+        self.put(false, None);
+        self.burst(16, false);
+        self.nak(8, &[(0, 5), (0, 0)]);
+        self.ack_of_eof(8);
+        self.burst(2, false);
+        self.finished(8, 0x02);
+        self.burst(16, false);
+        self.burst(0, false);
+        self.put(true, Some(true));
+        self.burst(4, false);
+        self.cancel(1, 9);
+        self.burst(1, true);
+        self.burst(16, true);
+    }
+
+    fn long_bursts(&mut self) {
+        self.file = (0..65400).map(|i| (i * 7 + i / 256) as u8).collect();
+        self.m = Memory::of(self.m.around.h, FRAME);
+        self.fresh("sixteen data PDUs of 4,096 bytes in 65,536 bytes", 1, 7, self.file.len());
+        let entry = &mut self.m.around.h.config.remotes[0];
+        (entry.maxpacket, entry.maxsegment, entry.checksum) = (4096, 4096, 3);
+        self.put(false, None);
+        self.burst(1, false);
+        self.burst(16, false);
+        self.burst(16, false);
+        self.nak(7, &[(40, 65400)]);
+        self.burst_in(self.lent, true, 16, FRAME - 1);
+        self.burst(16, true);
+        self.burst(16, true);
     }
 }
 
@@ -387,44 +559,50 @@ fn some_pdu(r: &mut Random, b: &[u8]) -> Vec<u8> {
 }
 
 fn one_call(r: &mut Random, m: &mut Memory, b: &[u8], call: u64) -> bool {
-    let was = *m;
+    let was = m.clone();
     let (mut length, mut refused) = (0, false);
     match call {
         0 => {
             let room = if r.below(4) > 0 { ROOM } else { r.below(40) as usize };
             let lent = if r.below(9) > 0 { FILE.len() } else { r.below(21) as usize };
-            match m.h.step(&FILE[..lent], r.below(2) == 0, &mut m.out[..room]) {
+            match m.around.h.step(&FILE[..lent], r.below(2) == 0, &mut m.out[..room]) {
                 Ok(s) => length = s.pdu.len(),
                 Err(_) => refused = true,
             }
         }
-        1 => refused = m.h.deliver(&some_pdu(r, b)).is_err(),
+        1 => refused = m.around.h.deliver(&some_pdu(r, b)).is_err(),
         2 => {
             let name: Vec<u8> = (0..r.below(300)).map(|_| r.below(128) as u8).collect();
-            let destination = EntityId { width: 1 << r.below(5), value: m.h.config.remotes[r.below(8) as usize].id.value };
+            let destination = EntityId { width: 1 << r.below(5), value: m.around.h.config.remotes[r.below(8) as usize].id.value };
             let p =
                 Put { destination, unacknowledged: None, closure: Some(true), source_name: &name, destination_name: b"b", size: r.next() };
-            refused = m.h.put(&p).is_err();
+            refused = m.around.h.put(&p).is_err();
         }
         3 => {
             let (source, number) = (word(b, SOURCE), word(b, NUMBER));
-            refused =
-                !m.h.cancel(EntityId { width: r.next() as u8, value: source }, SequenceNumber { width: r.next() as u8, value: number });
+            let id = EntityId { width: r.next() as u8, value: source };
+            refused = !m.around.h.cancel(id, SequenceNumber { width: r.next() as u8, value: number });
         }
-        4 => m.h.reset(),
-        _ => m.h = Handler::new(m.h.config, SequenceNumber { width: r.next() as u8, value: r.next() }),
+        4 => m.around.h.reset(),
+        6 => {
+            let room = if r.below(4) > 0 { ROOM } else { r.below(150) as usize };
+            let lent = if r.below(9) > 0 { FILE.len() } else { r.below(21) as usize };
+            let count = if r.below(16) > 0 { r.below(18) } else { r.next() } as usize;
+            return burst_on(m, &FILE[..lent], r.below(2) == 0, count, room).1;
+        }
+        _ => m.around.h = Handler::new(m.around.h.config, SequenceNumber { width: r.next() as u8, value: r.next() }),
     }
     m.kept(&was, refused, length)
 }
 
 fn garbage(way: Way, label: &str, rounds: usize) -> bool {
     let (mut r, mut calls, mut good) = (Random(0x9E37_79B9_7F4A_7C15), 0, 0);
-    for _ in 0..rounds {
+    for i in 0..rounds as u64 {
         let bytes = filled(&mut r, way);
         // SAFETY: a Handler holds numbers only, so any bytes are one.
-        let mut m = Memory::of(unsafe { transmute::<[u8; size_of::<Handler>()], Handler>(bytes) });
-        for k in 0..12 {
-            let call = if k < 6 { k } else { r.below(6) };
+        let mut m = Memory::of(unsafe { transmute::<[u8; size_of::<Handler>()], Handler>(bytes) }, ROOM);
+        for k in 0..14 {
+            let call = if k < 7 { (k + i) % 7 } else { r.below(7) }; // each in its turn is the first
             good += one_call(&mut r, &mut m, &bytes, call) as usize;
             calls += 1;
         }
@@ -433,18 +611,90 @@ fn garbage(way: Way, label: &str, rounds: usize) -> bool {
     good == calls
 }
 
+// ---- random passes on a handler that began as a new one: every burst is what the same steps are, one by one
+
+/// The number of the transaction under way.
+fn current(h: &Handler) -> u8 {
+    h.next_number().value.wrapping_sub(1) as u8
+}
+
+/// A NAK of bytes that have left, an ACK of the EOF or a Finished; the two last most often at their time.
+fn random_delivery(r: &mut Random, h: &mut Handler) {
+    let (kind, top) = (r.below(8), h.progress() + 1);
+    let body = match h.at() {
+        At::WaitingForEofAck if kind < 4 => vec![6, 0x40, 1],
+        At::WaitingForFinished if kind < 4 => vec![5, 2],
+        _ if kind == 0 => vec![6, 0x40, 1],
+        _ if kind == 1 => vec![5, 2],
+        _ => {
+            let mut nak = vec![8, 0, 0, 0, 0, 0, 0, 0, 0];
+            for _ in 0..1 + r.below(6) {
+                let start = r.below(top);
+                nak.extend([0, 0, 0, start as u8, 0, 0, 0, (start + r.below(top - start)) as u8]);
+            }
+            nak
+        }
+    };
+    let _ = h.deliver(&[&[0x28, 0, body.len() as u8, 0, 1, current(h), 2], &body[..]].concat());
+}
+
+fn random_put(r: &mut Random, h: &mut Handler) -> usize {
+    let lent = r.below(21) as usize;
+    let entry = &mut h.config.remotes[0];
+    (entry.maxpacket, entry.maxsegment, entry.limit) = (24 + r.below(30), 1 + r.below(4), r.below(4) as u8);
+    (entry.checksum, entry.crc) = ([0, 2, 3, 15][r.below(4) as usize], r.below(2) as u8);
+    h.config.actions.fill_with(|| [1, 3, 4][r.below(3) as usize]);
+    (h.config.eofsent, h.config.finished) = (r.below(4) as u8, r.below(4) as u8);
+    let destination = EntityId { width: 1, value: 2 };
+    let (unacknowledged, closure) = (Some(r.below(3) == 0), Some(r.below(2) == 0));
+    let _ = h.put(&Put { destination, unacknowledged, closure, source_name: b"a", destination_name: b"b", size: lent as u64 });
+    lent
+}
+
+fn random_bursts(rounds: usize) -> bool {
+    let (mut r, mut lent, mut good, mut steps) = (Random(0xD1B5_4A32_D192_ED03), 0, 0, 0);
+    let config = Config::to(EntityId { width: 1, value: 1 }, Remote { id: EntityId { width: 1, value: 2 }, ..Remote::NONE });
+    let mut m = Memory::of(Handler::new(config, SequenceNumber { width: 1, value: 7 }), ROOM);
+    for _ in 0..rounds {
+        let (h, dice) = (&mut m.around.h, r.below(64));
+        if h.is_idle() && dice % 8 > 0 {
+            lent = random_put(&mut r, h);
+        }
+        match dice {
+            1 => h.reset(),
+            2 => _ = h.cancel(EntityId { width: 1, value: 1 }, SequenceNumber { width: 1, value: current(h).into() }),
+            16.. => random_delivery(&mut r, h),
+            _ => (),
+        }
+        let room = if r.below(2) > 0 { ROOM } else { r.below(250) as usize };
+        let length = if r.below(16) > 0 { lent } else { r.below(21) as usize };
+        let count = if r.below(8) > 0 { 1 + r.below(16) } else { r.below(20) } as usize;
+        m.out[r.below(250) as usize] = r.next() as u8;
+        let (got, right) = burst_on(&mut m, &FILE[..length], r.below(3) == 0, count, room);
+        steps += got.map_or(0, |made| made.len());
+        good += right as usize;
+    }
+    println!("one by one: {good} of {rounds} bursts as their steps");
+    good == rounds && steps >= rounds
+}
+
 #[no_mangle]
 pub extern "C" fn main(_: i32, _: *const *const u8) -> i32 {
     let config = Config::to(EntityId { width: 1, value: 1 }, Remote::NONE);
-    let m = Memory::of(Handler::new(config, SequenceNumber { width: 1, value: 0 }));
-    let mut host = Host { m, lent: 0, wrong: false };
+    let m = Memory::of(Handler::new(config, SequenceNumber { width: 1, value: 0 }), ROOM);
+    let mut host = Host { m, file: FILE.to_vec(), lent: 0, wrong: false };
     host.byte_cases();
     host.acknowledged();
     host.refusals();
     host.cancels();
     host.wide();
+    host.bursts();
+    host.short_bursts();
+    host.bursts_with_expiry();
+    host.long_bursts();
     host.wrong |= !garbage(Way::Ones, "every byte 255", 4);
     host.wrong |= !garbage(Way::Random, "random", 200);
     host.wrong |= !garbage(Way::NearAState, "random, near a state", 1000);
+    host.wrong |= !random_bursts(8000);
     host.wrong as i32
 }

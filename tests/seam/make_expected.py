@@ -5,22 +5,33 @@
 
 The runs here are those of the hosts, call by call. The last lines say how many calls on memory that holds anything must return.
 """
-import os, sys
+import os, re, sys
 
 HERE = os.path.dirname(os.path.abspath(__file__))
 sys.path.insert(0, os.path.dirname(HERE))
+import calls
 from calls import Run, answer_line, answers
 from model import Config, Entry, Header, Request, be
 
 ROOM = 4608
+FRAME = calls.ROOM = 65536      # the hosts' out buffer is longer than that of a list of calls
 FILE = b'ABCDEFGHIJKLMNOPQRST'
+BIG = bytes((i * 7 + i // 256) % 256 for i in range(65400))
 M = ['24000a0001070207000000000501610162', '3400080001070200000000' + b'ABCD'.hex(), '3400050001070200000004' + b'E'.hex(), '24000a0001070204008642434400000005']
 lines = []
 
 
+def short(digits):
+    """A long PDU: its first sixteen bytes, its length, and a sum over all (FNV-1a)."""
+    pdu, total = bytes.fromhex(digits.group(0)), 2166136261
+    for b in pdu:
+        total = (total ^ b) * 16777619 % 2 ** 32
+    return '%s..%d:%08x' % (pdu[:16].hex(), len(pdu), total)
+
+
 class Host:
-    def __init__(self, label, number, size):
-        self.run, self.size = Run(label, number, FILE, []), size
+    def __init__(self, label, number, size, file=FILE):
+        self.run, self.size = Run(label, number, file, []), size
         self.entry = Entry((1, 2), packet=17, segment=4, limit=2)
         self.config = dict(local=(1, 1), actions=[1] * 16, entries=[self.entry])
 
@@ -39,6 +50,12 @@ class Host:
         for _ in range(n):
             self.step(self.size, expired, ROOM)
 
+    def burst_in(self, length, expired, count, room):
+        self.call('burst', expired, count, length, room)
+
+    def burst(self, count, expired):
+        self.burst_in(self.size, expired, count, FRAME)
+
     def directive(self, number, body):
         self.call('deliver', Header((1, 1), (1, number), (1, 2), to_sender=True).to_bytes(body))
 
@@ -56,7 +73,7 @@ class Host:
 
     def done(self):
         lines.append('== ' + self.run.label)
-        lines.extend(answer_line(a) for a in answers(self.run)[:-1])
+        lines.extend(re.sub(r'\b[0-9a-f]{129,}\b', short, answer_line(a)) for a in answers(self.run)[:-1])
 
 
 def byte_cases():
@@ -165,12 +182,99 @@ def wide():
     h.done()
 
 
+def bursts():
+    h = Host('M1 to M4 in one burst', (1, 7), 5)
+    h.put(True, False)
+    h.burst(16, 0)
+    h.burst(16, 0)
+    assert [pdu.hex() for pdu, _, _ in answers(h.run)[1][2]] == M + [''] and [len(p) // 2 for p in M] == [17, 15, 12, 17]
+    h.done()
+    h = Host('M1 to M4 in a buffer of 60 bytes', (1, 7), 5)
+    h.put(True, False)
+    h.burst_in(5, 0, 16, 60)
+    h.burst_in(5, 0, 16, 60)
+    assert [[pdu.hex() for pdu, _, _ in a[2]] for a in answers(h.run)[1:3]] == [M[:3], M[3:] + ['']]
+    h.done()
+
+
+def short_bursts():
+    h = Host('bursts that are refused, bursts that end early', (1, 7), 5)
+    h.burst(17, 0)
+    h.burst(2 ** 64 - 1, 1)
+    h.burst_in(0, 0, 17, 0)
+    h.burst(0, 0)
+    h.burst_in(4, 1, 16, 0)
+    h.put(False)
+    h.burst(17, 0)
+    h.burst_in(4, 1, 17, 0)
+    h.burst_in(4, 1, 0, 0)
+    h.burst_in(4, 0, 16, ROOM)
+    h.burst_in(5, 0, 16, 16)
+    h.burst_in(5, 0, 1, 0)
+    h.burst_in(5, 0, 16, 17)
+    h.burst_in(4, 1, 0, ROOM)
+    h.burst_in(5, 0, 16, 26)
+    h.nak(7, (0, 4), (0, 0), (1, 4))
+    h.burst(2, 1)
+    h.burst_in(5, 0, 16, 13)
+    h.burst(3, 0)
+    h.burst_in(5, 1, 16, 16)
+    h.burst_in(5, 1, 16, 17)
+    assert [a[1] for a in answers(h.run) if a[0] == 'burst'] == [32, 32, 32, 0, 0, 32, 32, 0, 30, 31, 31, 0, 0, 0, 0, 31, 0, 31, 0]
+    h.done()
+
+
+def bursts_with_expiry():
+    h = Host("the expiry of a burst is its first step's", (1, 7), 5)
+    h.put(False)
+    h.burst(3, 1)
+    h.burst(16, 1)
+    h.burst(16, 1)
+    h.nak(7, (0, 5))
+    h.burst(16, 1)
+    h.burst(16, 0)
+    h.burst(16, 1)
+    h.burst(1, 1)
+    h.burst(16, 1)
+    h.put(False)
+    h.burst(16, 0)
+    h.nak(8, (0, 5), (0, 0))
+    h.ack_of_eof(8)
+    h.burst(2, 0)
+    h.finished(8, 0x02)
+    h.burst(16, 0)
+    h.burst(0, 0)
+    h.put(True, True)
+    h.burst(4, 0)
+    h.cancel(1, 9)
+    h.burst(1, 1)
+    h.burst(16, 1)
+    h.done()
+
+
+def long_bursts():
+    h = Host('sixteen data PDUs of 4,096 bytes in 65,536 bytes', (1, 7), len(BIG), BIG)
+    h.entry = Entry((1, 2), packet=4096, segment=4096, checksum=3, limit=2)
+    h.config['entries'] = [h.entry]
+    h.put(False)
+    h.burst(1, 0)
+    h.burst(16, 0)
+    h.burst(16, 0)
+    h.nak(7, (40, 65400))
+    h.burst_in(h.size, 1, 16, FRAME - 1)
+    h.burst(16, 1)
+    h.burst(16, 1)
+    assert [[len(pdu) for pdu, _, _ in a[2]] for a in answers(h.run) if a[0] == 'burst'] == [[17], [4096] * 16, [51, 17, 0], [4096] * 15, [4096, 0], [17, 0]]
+    h.done()
+
+
 KEEP_ALIVE = '2a00073700001234000000000000000189abcdef0c00000000aab6'     # as the hosts have it
 
 if __name__ == '__main__':
-    for run in byte_cases, acknowledged, refusals, cancels, wide:
+    for run in byte_cases, acknowledged, refusals, cancels, wide, bursts, short_bursts, bursts_with_expiry, long_bursts:
         run()
     for label, rounds in (('every byte 255', 4), ('random', 200), ('random, near a state', 1000)):
-        lines.append('garbage, %s: %d of %d calls returned as they must' % (label, 12 * rounds, 12 * rounds))
+        lines.append('garbage, %s: %d of %d calls returned as they must' % (label, 14 * rounds, 14 * rounds))
+    lines.append('one by one: 8000 of 8000 bursts as their steps')
     with open(os.path.join(HERE, 'expected.txt'), 'w') as f:
         f.write('\n'.join(lines) + '\n')

@@ -4,7 +4,7 @@ use mathlib.Core.Path.{_≡_, refl, sym, ap, _∙_}
 use mathlib.Core.List.{List, [], _∷_, _++_, append-nil}
 use Prim.Native.Nat.{ℕ, zero, suc, _+_, _-_, _*_, _/_, _%_, _^_, _<_, _≤_}
 use native.Mathlib.Nat.{add-zero, add-suc, suc-add, zero-add, not-suc-le-zero}
-use native.Mathlib.Numerals.{add-one, sub-one}
+use native.Mathlib.Numerals.{add-one, sub-one, unary-clauses}
 use native.Mathlib.Omega.{arith}
 use borrow.Author.Tests.{lt-ltb, le-ltb}
 use lib.ListN.{length, getD, take, drop, set, drop-of-length-le}
@@ -24,6 +24,16 @@ pub be-done : (l : List ℕ) (p k v : ℕ) → k ≤ 0 → laid l p (be k v) ≡
 unfolding be laid
 be-done l p zero v h = refl
 be-done l p (suc k) v h = absurd (not-suc-le-zero h)
+
+-- a number of one byte, and one of four, byte by byte
+pub be-one : (l : List ℕ) (p v a : ℕ) → a ≡ v / 2 ^ (8 * 0) % 256 → set l p a ≡ laid l p (be 1 v)
+unfolding be laid
+be-one l p v a e = rw e refl
+
+pub be-four : (l : List ℕ) (p v a b c d : ℕ) → a ≡ v / 2 ^ (8 * 3) % 256 → b ≡ v / 2 ^ (8 * 2) % 256 → c ≡ v / 2 ^ (8 * 1) % 256 → d ≡ v / 2 ^ (8 * 0) % 256
+    → set (set (set (set l p a) (p + 1) b) (p + 2) c) (p + 3) d ≡ laid l p (be 4 v)
+unfolding be laid
+be-four l p v a b c d e f g h = rw (e, f, g, h) (simp unary-clauses refl)
 
 pub laid-none : (l : List ℕ) (i : ℕ) → laid l i [] ≡ l
 unfolding laid

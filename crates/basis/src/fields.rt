@@ -31,11 +31,23 @@ fn byte_of(v: u64, k: usize) -> u8
     ((v >> (8 * k)) % 256) as u8
 }
 
-// The w lowest bytes of v at a place of out, the highest of them first; the place behind them.
+// The w lowest bytes of v at a place of out, the highest of them first; the place behind them. The widths that most fields have, one and
+// four, are written without the loop: so a header costs less.
 pub fn put_be(out: &mut [u8], at: usize, w: usize, v: u64) -> usize
     requires { ⌜ at + w ≤ length (now out) ⌝ }
     ensures { λ r. ⌜ (r ≡ at + w) × (now (out .exit) ≡ laid (now (out .entry)) at (be w v)) ⌝ }
 {
+    if w == 1 {
+        out[at] = byte_of(v, 0);
+        return at + 1;
+    }
+    if w == 4 {
+        out[at] = byte_of(v, 3);
+        out[at + 1] = byte_of(v, 2);
+        out[at + 2] = byte_of(v, 1);
+        out[at + 3] = byte_of(v, 0);
+        return at + 4;
+    }
     let mut k = w;
     let mut p = at;
     while 0 < k {

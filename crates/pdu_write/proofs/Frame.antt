@@ -30,6 +30,11 @@ length-body : (large : Bool) (m : Said) → length (bodyBytes large m) ≡ sizes
 unfolding bodyBytes
 length-body large m = length-wire (layout large m)
 
+-- what a buffer has room for that a PDU fits in
+pub has-room : (h : Head) (m : Said) (l : List ℕ) → length (encode h m) ≤ length l → H h + sizes (layout (h .large) m) + C (h .crc) ≤ length l
+unfolding pduLength
+has-room h m l fits = rw (length-encode h m) at fits
+
 -- ---- the CRC where there is one
 
 pub crc-put : (crc : Bool) (l l₁ : List ℕ) (n r sum : ℕ) → crc ≡ true → sum ≡ crc16 (take n l) → (r ≡ n + 2) × (l₁ ≡ laid l n (be 2 sum))
@@ -67,14 +72,25 @@ whole h m l l₁ l₂ l₃ n a b fits en p q r =
     let t : take b l₂ ≡ bs = rw (e, k) (take-front l bs (omega (arith, length-append bs (trailer (h .crc) bs)))) in
     then l l₂ l₃ 0 b bs (trailer (h .crc) bs) e (k ∙ sym (zero-add (length bs))) (rw t at r)
 
+-- a PDU that there is room for
+pub placed : (h : Head) (m : Said) (l l₁ l₂ l₃ : List ℕ) (n a b e : ℕ) → length (encode h m) ≤ length l
+    → n ≡ sizes (layout (h .large) m) + C (h .crc)
+    → (a ≡ H h) × (l₁ ≡ laid l 0 (headBytes h (isFileData m) false n))
+    → (b ≡ a + sizes (layout (h .large) m)) × (l₂ ≡ laid l₁ a (bodyBytes (h .large) m))
+    → (e ≡ b + C (h .crc)) × (l₃ ≡ laid l₂ b (trailer (h .crc) (take b l₂)))
+    → (e ≡ length (encode h m)) × (l₃ ≡ inFront (encode h m) l)
+unfolding pduLength
+placed h m l l₁ l₂ l₃ n a b e fits en p q r =
+    (rw (length-encode h m) (omega arith), whole h m l l₁ l₂ l₃ n a b fits en p q (r .1) ∙ in-front l (encode h m) fits)
+
 pub written : (h : Head) (m : Said) (l l₁ l₂ l₃ : List ℕ) (n a b e : ℕ) → pduLength h m ≤ length l
     → n ≡ sizes (layout (h .large) m) + C (h .crc)
     → (a ≡ H h) × (l₁ ≡ laid l 0 (headBytes h (isFileData m) false n))
     → (b ≡ a + sizes (layout (h .large) m)) × (l₂ ≡ laid l₁ a (bodyBytes (h .large) m))
     → (e ≡ b + C (h .crc)) × (l₃ ≡ laid l₂ b (trailer (h .crc) (take b l₂)))
     → (Wrote e ≡ writtenOf (encode h m) l) × (l₃ ≡ inFront (encode h m) l)
-unfolding writtenOf pduLength
+unfolding writtenOf
 written h m l l₁ l₂ l₃ n a b e room en p q r =
     let fits : length (encode h m) ≤ length l = rw (length-encode h m) room in
-    let k : e ≡ length (encode h m) = rw (length-encode h m) (omega arith) in
-    (rw (le-ltb _ _ fits) (ap Wrote k), whole h m l l₁ l₂ l₃ n a b fits en p q (r .1) ∙ in-front l (encode h m) fits)
+    let k = placed h m l l₁ l₂ l₃ n a b e fits en p q r in
+    (rw (le-ltb _ _ fits) (ap Wrote (k .0)), k .1)

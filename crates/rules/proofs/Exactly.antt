@@ -185,7 +185,7 @@ none-made (suc n) s file expired room h = go (stepSpec s file expired room .answ
     go Accepted rs h = absurd (h refl)
     go (Refused r) rs h = refl
 
-none-laid : (n : ℕ) (s : State) (file : List ℕ) (expired : Bool) (out : List ℕ) → ¬ (answerNo (stepSpec s file expired (length out) .answer) ≡ 0)
+pub none-laid : (n : ℕ) (s : State) (file : List ℕ) (expired : Bool) (out : List ℕ) → ¬ (answerNo (stepSpec s file expired (length out) .answer) ≡ 0)
     → laidOf n s file expired out ≡ out
 unfolding laidOf
 none-laid zero s file expired out h = refl

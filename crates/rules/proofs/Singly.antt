@@ -69,6 +69,22 @@ step-fits s file expired out = go (changed s (length file)) (ltb (length out) (l
         let n = ltb-false (length out) (length bs) e in
         record { fits = omega arith; behind-it = drop-at bs (drop (length bs) out) (length bs) refl }
 
+pub step-length : (s : State) (file : List ℕ) (expired : Bool) (out : List ℕ) → length (stepBytes s file expired out) ≡ length out
+unfolding stepBytes inFront
+step-length s file expired out = go (changed s (length file)) (ltb (length out) (length (bytesDue s file expired))) refl
+  where
+    bs : List ℕ
+    bs = bytesDue s file expired
+
+    go : (b c : Bool) → ltb (length out) (length bs) ≡ c → length (pick b out (pick c out (bs ++ drop (length bs) out))) ≡ length out
+    go true c e = refl
+    go false true e = refl
+    go false false e =
+        let l = length-append bs (drop (length bs) out) in
+        let d = length-drop (length bs) out in
+        let n = ltb-false (length out) (length bs) e in
+        omega arith
+
 -- a refused step leaves the buffer; nothing of it is taken
 refused-laid : (s : State) (file : List ℕ) (expired : Bool) (out rest : List ℕ)
     → let r = stepSpec s file expired (length out) in

@@ -11,8 +11,8 @@ use Rattle.types.specs.declared.FinishedEvent.{FinishedEvent}
 use Rattle.types.specs.declared.FinishedEvent.the-variants.{NotFinished, Finished}
 use Rattle.types.specs.declared.TimerEvent.{TimerEvent}
 use Rattle.types.specs.declared.TimerEvent.the-variants.{NoTimer, AckTimer, CheckTimer}
-use Rattle.types.specs.declared.Stepped.{Stepped}
-use Rattle.seam_rules.specs.Memory.{flagOf, stateOf, heldOf, reportOf}
+use Rattle.types.specs.declared.Made.{Made}
+use Rattle.seam_rules.specs.Memory.{flagOf, stateOf, heldOf, reported}
 use Rattle.seam_rules.specs.declared.memory.Config.{Config}
 use Rattle.seam_rules.specs.declared.memory.Report.{Report}
 
@@ -41,6 +41,6 @@ eventsIn r =
       timer = timerIn r;
     }
 
--- PROMISE events-kept: a step's report says the PDU's length and all its events.
+-- PROMISE events-kept: what a step's report says is the PDU's length and all its events.
 abbrev pub EventsKept : Type 0
-EventsKept = (r : Stepped) → (reportOf r .length ≡ r .length) × (eventsIn (reportOf r) ≡ r .events)
+EventsKept = (m : Made) → (reported m .length ≡ m .length) × (eventsIn (reported m) ≡ m .events)

@@ -6,6 +6,7 @@ use Prim.Native.Nat.{ℕ}
 use lib.Dec.{eqb}
 use Rattle.basis.specs.Pick.{pick, flag}
 use Rattle.rules.specs.States.{notFinished, stepNo}
+use Rattle.rules.specs.Burst.{madeOf}
 use Rattle.types.specs.declared.RemoteEntityConfig.{RemoteEntityConfig}
 use Rattle.types.specs.declared.LocalEntityConfig.{LocalEntityConfig}
 use Rattle.types.specs.declared.Choice.{Choice}
@@ -25,6 +26,7 @@ use Rattle.types.specs.declared.FinishedParams.{FinishedParams}
 use Rattle.types.specs.declared.TimerEvent.{TimerEvent}
 use Rattle.types.specs.declared.TimerEvent.the-variants.{NoTimer, AckTimer, CheckTimer}
 use Rattle.types.specs.declared.Stepped.{Stepped}
+use Rattle.types.specs.declared.Made.{Made}
 use Rattle.seam_rules.specs.declared.memory.Remote.{Remote}
 use Rattle.seam_rules.specs.declared.memory.Config.{Config}
 use Rattle.seam_rules.specs.declared.memory.Transaction.{Transaction}
@@ -197,22 +199,25 @@ timerNo NoTimer = 0
 timerNo AckTimer = 1
 timerNo CheckTimer = 2
 
-unfoldable pub reportOf : Stepped → Report
-reportOf r =
+unfoldable pub reported : Made → Report
+reported m =
     record {
-      length = r .length;
-      progress = faultProgress (r .events .fault);
-      source = r .events .id .0;
-      number = r .events .id .1;
-      transaction = flag (r .events .transaction);
-      eofsent = flag (r .events .eofsent);
-      fault = faultFlag (r .events .fault);
-      action = faultAction (r .events .fault);
-      condition = faultCondition (r .events .fault);
-      finished = finishedFlag (r .events .finished);
-      values = finishedValues (r .events .finished);
-      timer = timerNo (r .events .timer);
+      length = m .length;
+      progress = faultProgress (m .events .fault);
+      source = m .events .id .0;
+      number = m .events .id .1;
+      transaction = flag (m .events .transaction);
+      eofsent = flag (m .events .eofsent);
+      fault = faultFlag (m .events .fault);
+      action = faultAction (m .events .fault);
+      condition = faultCondition (m .events .fault);
+      finished = finishedFlag (m .events .finished);
+      values = finishedValues (m .events .finished);
+      timer = timerNo (m .events .timer);
     }
+
+abbrev pub reportOf : Stepped → Report
+reportOf r = reported (madeOf r)
 
 -- after an accepted call that is no step
 abbrev pub noReport : Report

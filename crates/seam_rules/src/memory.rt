@@ -80,6 +80,13 @@ pub struct Report {
     pub timer: u8,
 }
 
+// What the last accepted burst said: how many steps it made, and what each said, in order; the places behind keep what they held.
+#[repr(C)]
+pub struct BurstReport {
+    pub count: u64,
+    pub steps: [Report; 16],
+}
+
 // The handler: `number` is the next put's; `step` is 0 Idle, 1 SendingMetadata, 2 SendingFileData, 3 SendingEof, 4 WaitingForEofAck,
 // 5 WaitingForFinished, 6 Closing, and any other number is Idle.
 #[repr(C)]

@@ -65,6 +65,7 @@ fn place(r: Refusal) -> usize {
         Refusal::RetransmitFull => 13,
         Refusal::FileChanged => 14,
         Refusal::OutTooSmall => 15,
+        Refusal::BurstTooLong => 16,
     }
 }
 

@@ -26,6 +26,7 @@ fn refusal_no(r: Refusal) -> u8
         Refusal::RetransmitFull => 25,
         Refusal::FileChanged => 30,
         Refusal::OutTooSmall => 31,
+        Refusal::BurstTooLong => 32,
     }
 }
 

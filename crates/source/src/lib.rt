@@ -1,4 +1,4 @@
-// The sending handler: six calls over one state that goes in by value and comes back by value. Each takes any state value, any bytes and any
+// The sending handler: seven calls over one state that goes in by value and comes back by value. Each takes any state value, any bytes and any
 // numbers, in any order, and returns; its contract is one relation of crate `rules` and nothing beside it, so what is proved of the relations holds of
 // these calls. The code stands in source_put, source_deliver and source_step.
 // To read it: `(x : A) → P` "for every x of A, P", and `P → Q` "if P, then Q"; `(x : A) × P` "there is an x of A with P", and `P × Q` "P and Q"; `P ⊎ Q` "P or Q"; `¬ P` "not P"; `P ↔ Q` "P exactly
@@ -8,7 +8,8 @@
 pub mod answers;
 
 ghost use mathlib.Core.Path.{_≡_};
-ghost use Rattle.rules.specs.Calls.{PutMeets, DeliverMeets, StepMeets, CancelMeets, ResetMeets, NewMeets};
+ghost use Rattle.rules.specs.Calls.{PutMeets, DeliverMeets, StepMeets, BurstMeets, CancelMeets, ResetMeets, NewMeets};
+use types::Bursted;
 use types::Cancelled;
 use types::Done;
 use types::EntityId;
@@ -51,6 +52,13 @@ pub fn step(s: State, file: &[u8], expired: bool, out: &mut [u8]) -> Stepped
     ensures { λ r. ⌜ StepMeets s (now (file .entry)) expired (now (out .entry)) (now (out .exit)) r ⌝ }
 {
     source_step::step(s, file, expired, out)
+}
+
+// Makes up to sixteen steps, their PDUs end to end in front of `out`: refusal 32, or 30 and 31 of the first step.
+pub fn burst(s: State, file: &[u8], expired: bool, count: usize, out: &mut [u8]) -> Bursted
+    ensures { λ r. ⌜ BurstMeets s (now (file .entry)) expired count (now (out .entry)) (now (out .exit)) r ⌝ }
+{
+    source_step::burst(s, file, expired, count, out)
 }
 
 // The user's cancel: yes or no.

@@ -1,21 +1,28 @@
-// A step of the sender with its faults, the user's cancel, reset and a new handler: each call equal to its definition in `rules`.
+// A step of the sender with its faults, a burst of steps, the user's cancel, reset and a new handler: each call equal to its definition in `rules`.
 // A step decides what is due, then has its PDU written, and only then makes the new state, so that a refusal changes nothing.
 // After cfdp-rs 0.3.0, src/source.rs (Apache-2.0); changed, see NOTICE.
 pub mod after;
 pub mod bulk;
 mod cancelling;
 pub mod events;
+mod going;
 pub mod outcome;
 
+use crate::going::begun;
+use crate::going::gone_on;
+use crate::going::no_steps;
 use crate::outcome::outcome_of;
 use crate::outcome::stepped_by;
+use types::Answer;
+use types::Bursted;
 use types::Cancelled;
 use types::EntityId;
+use types::Refusal;
 use types::State;
 use types::Stepped;
 use types::TransactionSeqNum;
 ghost use mathlib.Core.Path.{_≡_};
-ghost use Rattle.rules.specs.Calls.{StepMeets, CancelMeets, ResetMeets, NewMeets};
+ghost use Rattle.rules.specs.Calls.{StepMeets, BurstMeets, CancelMeets, ResetMeets, NewMeets};
 
 // One step: at most one PDU, in front of out.
 pub fn step(s: State, file: &[u8], expired: bool, out: &mut [u8]) -> Stepped
@@ -23,6 +30,24 @@ pub fn step(s: State, file: &[u8], expired: bool, out: &mut [u8]) -> Stepped
 {
     let o = outcome_of(s, file, expired, out);
     stepped_by(s, o)
+}
+
+// Up to sixteen steps, their PDUs end to end in front of out: the first with `expired`, and refused if it is refused.
+pub fn burst(s: State, file: &[u8], expired: bool, count: usize, out: &mut [u8]) -> Bursted
+    ensures { λ r. ⌜ BurstMeets s (now (file .entry)) expired count (now (out .entry)) (now (out .exit)) r ⌝ }
+{
+    if count > 16 {
+        return no_steps(Answer::Refused(Refusal::BurstTooLong), s);
+    }
+    if count == 0 {
+        return no_steps(Answer::Accepted, s);
+    }
+    let r = step(s, file, expired, out);
+    let a = r.answer;
+    match a {
+        Answer::Accepted => gone_on(begun(s, r, count), file, out),
+        Answer::Refused(k) => no_steps(Answer::Refused(k), s),
+    }
 }
 
 // The user's cancel: its EOF is owed to the next step.
