@@ -280,12 +280,12 @@ def show(program, run):
             return
 
 
-def compare(program, count, seed, bursts=True):
-    """1 if a list differs. `program` is the words that start it; `bursts`: whether it knows that call."""
+def compare(program, count, seed):
+    """1 if a list differs. `program` is the words that start it."""
     calls = puts = bursted = 0
     for k in range(count):
         rng = random.Random(seed * 1000003 + k)
-        run = random_run(rng, '', 48000, rng.choice([5, 64, 200, 300, 300, 6000]), bursts=bursts)
+        run = random_run(rng, '', 48000, rng.choice([5, 64, 200, 300, 300, 6000]), bursts=True)
         if differs(program, run):
             print('list %d differs' % k)
             show(program, run)
