@@ -17,7 +17,7 @@ use Rattle.source_deliver.specs.declared.effect.Effect.{Effect}
 use Rattle.source_deliver.specs.declared.effect.Effect.the-variants.{Refuse, NoEffect, WaitForFinished, Close as CloseBy, Enqueue}
 use Rattle.source_step.specs.declared.bulk.Bulk.{Bulk}
 use Rattle.source_step.specs.declared.bulk.Bulk.the-variants.{Kept, Emptied, Idle}
-use Rattle.seam_rules.specs.Memory.{stateOf, fixedTaken, heldOf, reportOf, noReport}
+use Rattle.seam_rules.specs.Memory.{stateOf, fixedTaken, heldOf, reported, reportOf, noReport}
 use Rattle.seam_rules.specs.Seam.{byAnswer}
 use Rattle.types.specs.declared.State.{State}
 use Rattle.types.specs.declared.Eof.{Eof}
@@ -79,7 +79,7 @@ module _ (h : Handler) (r : Report) where
 
 told-as : (h : Handler) (o : Outcome) (a : Answer) → let q = steppedAs (stateOf h) o a in
     toldDone h (toldAs h (stateOf h) o a) ≡ byAnswer h (q .state) (reportOf q) (q .answer)
-unfolding keptLight lightHeld reportOf
+unfolding keptLight lightHeld reported
 told-as h o Accepted =
     ap (λ (k : Handler). record { code = 0; held = k })
     (by-due h (reportOf (record { answer = Accepted; length = o .length; events = eventsOf (stateOf h) (o .due); state = stateOf h })) (o .eof) (o .due))

@@ -15,7 +15,7 @@ use Rattle.types.specs.declared.FinishedEvent.{FinishedEvent}
 use Rattle.types.specs.declared.FinishedEvent.the-variants.{NotFinished, Finished}
 use Rattle.types.specs.declared.TimerEvent.{TimerEvent}
 use Rattle.types.specs.declared.TimerEvent.the-variants.{NoTimer, AckTimer, CheckTimer}
-use Rattle.seam_rules.specs.Memory.{flagOf, stepOf, headTaken, fixedTaken, marksTaken, stateOf, fixedStored, marksStored, heldOf, faultFlag, faultAction, faultCondition, faultProgress, finishedFlag, finishedValues, timerNo, reportOf}
+use Rattle.seam_rules.specs.Memory.{flagOf, stepOf, headTaken, fixedTaken, marksTaken, stateOf, fixedStored, marksStored, heldOf, faultFlag, faultAction, faultCondition, faultProgress, finishedFlag, finishedValues, timerNo, reported}
 use Rattle.seam_rules.specs.Kept.{StateKept, EventsKept}
 
 flag-kept : (b : Bool) → flagOf (flag b) ≡ b
@@ -71,15 +71,15 @@ timer-kept AckTimer = refl
 timer-kept CheckTimer = refl
 
 pub events-kept : EventsKept
-unfolding reportOf
-events-kept r = (
+unfolding reported
+events-kept m = (
   refl,
   λ i. record {
-    id = r .events .id;
-    transaction = flag-kept (r .events .transaction) i;
-    eofsent = flag-kept (r .events .eofsent) i;
-    fault = fault-kept (r .events .fault) i;
-    finished = finished-kept (r .events .finished) i;
-    timer = timer-kept (r .events .timer) i;
+    id = m .events .id;
+    transaction = flag-kept (m .events .transaction) i;
+    eofsent = flag-kept (m .events .eofsent) i;
+    fault = fault-kept (m .events .fault) i;
+    finished = finished-kept (m .events .finished) i;
+    timer = timer-kept (m .events .timer) i;
   },
 )

@@ -1,6 +1,6 @@
 -- Field by field.
 -- Assumes nothing.
-use Rattle.seam_rules.specs.Memory.{reportOf}
+use Rattle.seam_rules.specs.Memory.{reported}
 use borrow.Author.Needs.{needs}
 use Rattle.seam.proofs.events.report_of.Statement.{statement}
 use Rattle.seam.proofs.events.report_of.Tie as tie
@@ -36,7 +36,7 @@ bit-of-requires-2 : tie.Need-bit-of-requires-2
 bit-of-requires-2 c κs = search needs
 
 returns : tie.Need-returns
-unfolding reportOf
+unfolding reported
 returns c = rw ((c .before .before .before .before .before .before .before .before .before .before .before .before .long .ensures), (c .before .before .before .before .before .before .before .before .before .before .fault-progress .ensures), (c .before .before .before .before .before .before .before .before .before .fault-flag .ensures), (c .before .before .before .before .before .before .before .before .fault-action .ensures), (c .before .before .before .before .before .before .before .fault-condition .ensures), (c .before .before .before .before .before .before .finished-flag .ensures), (c .before .before .before .before .before .finished-values .ensures), (c .before .before .before .before .timer-no .ensures), (c .before .before .before .bit-of .ensures .0), (c .before .before .bit-of2 .ensures .0))
 
 pub report-of-spec : {M : Type 1} → statement M
