@@ -1,7 +1,8 @@
 """Lists of calls in the bytes of docs/HOST.md, what the model answers to them, and both as readable lines.
 
 A call is a tuple: ('put', Config, Request, S, source name, destination name), ('deliver', bytes), ('step', expired, lent, room),
-('cancel', source id, number), ('reset',), ('raw', bytes) for bytes that are no call. A run is a label, the first number, a file and calls.
+('cancel', source id, number), ('reset',), ('burst', expired, count, lent, room), ('raw', bytes) for bytes that are no call. A run is a label, the first
+number, a file and calls.
 """
 from model import Entry, Handler, be
 
@@ -46,6 +47,8 @@ def call_bytes(call):
         return b'\x03' + be(1, args[0]) + be(4, args[1]) + be(4, args[2])
     if kind == 'cancel':
         return b'\x04' + tagged(args[0]) + tagged(args[1])
+    if kind == 'burst':
+        return b'\x06' + be(1, args[0]) + be(1, args[1]) + be(4, args[2]) + be(4, args[3])
     return b'\x05' if kind == 'reset' else args[0]
 
 
@@ -61,10 +64,12 @@ def answers(run):
         kind, args = call[0], call[1:]
         if kind == 'raw':
             # an unknown kind, or a known one cut short
-            return given + [('end', 2 if args[0][0] in range(1, 6) else 1)]
+            return given + [('end', 2 if args[0][0] in range(1, 7) else 1)]
         if kind == 'step':
             refusal, pdu, events = model.step(bool(args[0]), run.file[:args[1]], min(args[2], ROOM))
             given.append(('step', refusal, pdu, events, model.who if events else None))
+        elif kind == 'burst':
+            given.append(('burst',) + model.burst(bool(args[0]), args[1], run.file[:args[2]], min(args[3], ROOM)))
         else:
             given.append((kind, getattr(model, kind)(*args)))
     return given + [('end', 0)]
@@ -76,7 +81,9 @@ def answer_bytes(given):
         if a[0] in ('put', 'deliver'):
             out += bytes([1 + (a[0] == 'deliver'), a[1]])
         elif a[0] == 'step':
-            out += bytes([3, a[1]]) + be(2, len(a[2])) + a[2] + event_bytes(a[3], a[4])
+            out += bytes([3, a[1]]) + made_bytes(*a[2:])
+        elif a[0] == 'burst':
+            out += bytes([6, a[1], len(a[2])]) + b''.join(made_bytes(*made) for made in a[2])
         elif a[0] == 'cancel':
             out += bytes([4, a[1]])
         elif a[0] == 'reset':
@@ -84,6 +91,10 @@ def answer_bytes(given):
         else:
             out += bytes([255, a[1]])
     return out
+
+
+def made_bytes(pdu, events, who):
+    return be(2, len(pdu)) + pdu + event_bytes(events, who)
 
 
 def event_bytes(events, who):
@@ -104,12 +115,19 @@ def shown(pdu):
     return pdu.hex() or '-'
 
 
+def made_line(pdu, events, who):
+    words = [str(w) for e in events for w in e]
+    if words:
+        words.append('of %d:%d %d:%d' % (who[0] + who[1]))
+    return ' '.join([shown(pdu)] + words)
+
+
 def answer_line(a):
+    """One line, and of a burst one more for each step made."""
     if a[0] == 'step':
-        words = [str(w) for e in a[3] for w in e]
-        if words:
-            words.append('of %d:%d %d:%d' % (a[4][0] + a[4][1]))
-        return ' '.join(['step', str(a[1]), shown(a[2])] + words)
+        return 'step %d %s' % (a[1], made_line(*a[2:]))
+    if a[0] == 'burst':
+        return '\n    '.join(['burst %d %d' % (a[1], len(a[2]))] + [made_line(*made) for made in a[2]])
     if a[0] == 'cancel':
         return 'cancel ' + ('yes' if a[1] else 'no')
     return 'reset' if a[0] == 'reset' else '%s %d' % a
@@ -128,6 +146,8 @@ def call_line(call):
         return 'deliver ' + shown(args[0])
     if kind == 'step':
         return 'step expired %d lent %d room %d' % args
+    if kind == 'burst':
+        return 'burst expired %d count %d lent %d room %d' % args
     if kind == 'cancel':
         return 'cancel %d:%d %d:%d' % (args[0] + args[1])
     return kind if kind == 'reset' else 'raw ' + shown(args[0])

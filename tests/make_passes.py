@@ -91,6 +91,20 @@ class Pass:
             assert ' '.join(e[0] for e in events) == last, (self.run.label, events, last)
         return self
 
+    def burst(self, count, lengths=(), want=0, told=None, pdus=None, expired=0, lent=None, room=MAX):
+        """One burst, by hand: the steps' lengths, the names of their events, and their PDUs in hex."""
+        lent = len(self.file) if lent is None else lent
+        self.run.calls.append(('burst', expired, count, lent, room))
+        refusal, made = self.model.burst(bool(expired), count, self.file[:lent], room)
+        got = refusal, [len(pdu) for pdu, _, _ in made]
+        assert got == (want, list(lengths)), (self.run.label, len(self.run.calls), got, want, lengths)
+        if told is not None:
+            names = [' '.join(e[0] for e in events) for _, events, _ in made]
+            assert names == told, (self.run.label, names, told)
+        if pdus is not None:
+            assert [pdu.hex(' ').upper() for pdu, _, _ in made] == pdus, (self.run.label, made, pdus)
+        return self
+
     def exact(self, **other):
         """The step that is due, refused for an out buffer one byte short, then made in one that it fills."""
         due = copy.deepcopy(self.model).step(bool(other.get('expired')), self.file, MAX)[1]
@@ -319,12 +333,46 @@ p.step(64).at(EOF).nak(*pairs)
 owed = sum(1 if pair == (0, 0) else -(-(pair[1] - pair[0]) // 8) for pair in pairs)
 p.step(owed).at(EOF).step(last='eof-sent ack-timer').ack().nak(*pairs).step(owed).step(pdu='').finished().step().at(IDLE)
 
+# ---- bursts
+
+M1_to_M4 = ['24 00 0A 00 01 07 02 07 00 00 00 00 05 01 61 01 62', '34 00 08 00 01 07 02 00 00 00 00 41 42 43 44', '34 00 05 00 01 07 02 00 00 00 04 45',
+            '24 00 0A 00 01 07 02 04 00 86 42 43 44 00 00 00 05']
+p = Pass('burst, M1 to M4 in one, and a step in Idle that emits nothing and ends it', unack=True).put()
+p.burst(16, [17, 15, 12, 17, 0], pdus=M1_to_M4 + [''], told=['transaction', '', '', 'eof-sent finished', ''], room=61).at(IDLE).burst(16, [0], told=[''])
+p.put().burst(4, [17, 15, 12, 17], told=['transaction', '', '', 'eof-sent finished']).at(IDLE).put().burst(3, [17, 15, 12]).at(EOF).burst(1, [17]).at(IDLE)
+p = Pass('burst, refusals: a count above 16 first, a count of 0 tests nothing, then those of the first step')
+p.burst(17, want=32).burst(17, want=32, lent=0, room=0).burst(255, want=32).burst(0).burst(0, lent=0, room=0).burst(16, [0], lent=0, room=0).at(IDLE)
+p.put().burst(17, want=32).burst(17, want=32, lent=4, room=0).burst(18, want=32).burst(255, want=32, room=0).burst(0).burst(0, lent=4, room=0).at(METADATA)
+p.burst(1, want=30, lent=4, room=0).burst(16, want=30, lent=3).burst(16, want=30, lent=0).burst(1, want=31, room=16).burst(16, want=31, room=0).at(METADATA)
+p.burst(2, [17, 15], told=['transaction', '']).burst(16, want=30, lent=4).burst(16, want=31, room=11).step(room=12, pdu='30 00 05 00 01 07 02 00 00 00 04 45')
+p.burst(5, want=31, room=16).burst(16, want=30, lent=0).burst(16, [17, 0]).at(EOF_ACK).burst(16, want=30, lent=4, room=0).burst(16, [0], room=0)
+p = Pass('burst, a later PDU that does not fit the rest is not made; a step that emits nothing needs no room').put()
+p.burst(16, [17], room=17).at(DATA).reset().put().burst(16, [17], room=31).reset().put().burst(16, [17, 15], room=32).burst(16, [12], room=28).at(EOF)
+p.nak((0, 4), (0, 0)).burst(16, [15], room=31).burst(16, [17], room=33).burst(16, [17, 0], room=17, told=['eof-sent ack-timer', '']).at(EOF_ACK)
+p.reset().put().burst(16, [17, 15, 12], room=60).at(EOF).reset().put().burst(16, [17, 15, 12, 17, 0], room=61).reset().put().burst(4, [17, 15, 12, 17], room=61).at(EOF_ACK)
+p = Pass('burst, the expiry flag holds for the first step only, read or not', limit=4).put()
+p.burst(16, [17, 15, 12, 17, 0], expired=1, told=['transaction', '', '', 'eof-sent ack-timer', '']).burst(16, [17, 0], expired=1, told=['eof-sent ack-timer', ''])
+p.nak((0, 5)).burst(16, [15, 12, 0], expired=1, told=['', '', '']).burst(1, [17], expired=1).burst(2, [17, 0], expired=1, told=['eof-sent ack-timer', ''])
+p.burst(16, want=31, expired=1, room=16).burst(16, [17, 0], expired=1, told=['eof-sent fault ack-timer', '']).at(EOF_ACK).burst(16, [0], room=0).burst(0, expired=1)
+p.ack(condition=1).burst(16, [0], expired=1, told=['']).finished(condition=1, delivery=1).burst(16, [10, 0], told=['finished', '']).at(IDLE)
+p = Pass('burst, a fault that sends nothing ends it: ignore, abandon', limit=1).put(actions=[3] * 16).to(EOF_ACK)
+p.burst(16, [0], expired=1, room=0, told=['fault']).at(EOF_ACK).burst(16, [0], told=['']).cancel().burst(16, [17, 0], expired=1, told=['eof-sent ack-timer', ''])
+p.burst(16, [0], expired=1, told=['fault']).at(IDLE).put(unack=True, closure=True, actions=[4] * 16).burst(16, [17, 15, 12, 17, 0]).at(FINISHED)
+p.burst(16, [0], expired=1, told=['fault']).at(IDLE).put(unack=True, closure=True).to(FINISHED).burst(16, [17, 0], expired=1, told=['eof-sent fault', '']).at(IDLE)
+p.put(unack=True, closure=True).to(FINISHED).finished().burst(16, [0], room=0, told=['finished']).at(IDLE)
+p = Pass('burst, repairs first, in order; one served in part keeps its rest; cancel drops them').put().step(3).nak((0, 4), (0, 5), (0, 0))
+p.burst(2, [15, 15]).burst(16, [12, 17, 17, 0], told=['', '', 'eof-sent ack-timer', '']).nak((0, 5)).burst(1, [15]).cancel().burst(16, [17, 0], told=['eof-sent ack-timer', ''])
+p = Pass('burst, sixteen and no seventeenth', file=bytes(range(60)), segment=2, checksum=2).put()
+p.burst(16, [17] + [13] * 15, room=212).burst(15, [13] * 15).at(EOF).nak(*[(2 * k, 2 * k + 2) for k in range(17)]).burst(16, [13] * 16).burst(16, [13, 17, 0]).at(EOF_ACK)
+
+
 # ---- what is no call
 
-Pass('a kind that is unknown').put().raw(b'\x06\0\0')
+Pass('a kind that is unknown').put().raw(b'\x07\0\0')
 Pass('a step cut short').put().step().raw(b'\x03\0\0\0\0\5')
 Pass('a delivery cut short').put().raw(b'\x02\0\0\0\5abcd')
 Pass('a cancel cut short').put().raw(b'\x04' + bytes(17))
+Pass('a burst cut short').put().burst(2, [17, 15]).raw(b'\x06\0\x10' + bytes(7))
 Pass('a put cut short').raw(b'\x01' + bytes(273))
 Pass('no calls')
 
@@ -333,6 +381,8 @@ Pass('no calls')
 SEED = 727
 for k in range(36):
     runs.append(random_run(random.Random(SEED * 1000 + k), f'random {k}', 1100))
+for k in range(8):
+    runs.append(random_run(random.Random(SEED * 2000 + k), f'random with bursts {k}', 900, bursts=True))
 
 
 if __name__ == '__main__':

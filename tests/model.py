@@ -1,8 +1,8 @@
-"""Document 01 as a plain Python class, the independent model of the handler.
+"""Document 01, with document 02's burst, as a plain Python class, the independent model of the handler.
 
-Written from the paper's words (and docs/DECISIONS.md where they leave a choice) with nothing taken from the crates. An id or a number is a pair
+Written from the papers' words (and docs/DECISIONS.md where they leave a choice) with nothing taken from the crates. An id or a number is a pair
 (width, value). Each call gives what the handler's call must give: put and deliver a refusal's number or 0; step a refusal's number, the PDU and the
-events; cancel True or False.
+events; burst a refusal's number and the steps made; cancel True or False.
 """
 import binascii, copy, zlib
 
@@ -389,3 +389,24 @@ class Handler:
         t.cancelled, t.condition, t.queue = True, condition, []
         pdu, events = self.cancel_eof(file)
         return pdu, events + event
+
+    # -- burst
+
+    def burst(self, expired, count, file, room):
+        """(refusal, steps): for each step made its PDU, its events and whose they are; the PDUs lie end to end in `room` bytes."""
+        if count > 16:
+            return 32, []
+        made = []
+        while len(made) < count:
+            first = not made
+            refusal, pdu, events = self.step(expired and first, file, room)
+            if refusal and first:
+                return refusal, []                  # "If the first step is refused, the burst gives that refusal and changes nothing."
+            if refusal:
+                assert refusal == 31                # the file cannot have changed in between
+                break                               # "one that OutTooSmall would refuse for the rest of the buffer is not made"
+            made.append((pdu, events, self.who if events else None))
+            room -= len(pdu)
+            if not pdu:
+                break                               # "A step that emits nothing is made and ends the burst"
+        return 0, made

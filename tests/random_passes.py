@@ -131,17 +131,36 @@ def some_delivery(rng, t):
     return 'deliver', bytes(pdu)
 
 
-def some_step(rng, model):
-    t = model.t
-    expired = rng.random() < 0.35
+def some_lent(rng, t):
     lent = t.S if t else rng.randrange(9)
     if rng.random() < 0.03:
         lent = rng.choice([0, lent + 1, max(lent, 1) - 1])
+    return min(lent, 2 ** 32 - 1)
+
+
+def some_step(rng, model):
+    t = model.t
+    expired = rng.random() < 0.35
+    lent = some_lent(rng, t)
     room = 4608
     if rng.random() < 0.3 and t and t.S <= 4096:
         due = len(copy.deepcopy(model).step(expired, bytes(t.S), 4608)[1])
         room = rng.choice([due, due, max(due, 1) - 1, 0, 2 ** 32 - 1])
-    return 'step', int(expired), min(lent, 2 ** 32 - 1), room
+    return 'step', int(expired), lent, room
+
+
+def some_burst(rng, model):
+    """Often in a buffer that ends where one of its PDUs does, one byte before or one behind."""
+    t = model.t
+    expired = rng.random() < 0.35
+    count = rng.choice([rng.randrange(18), rng.randrange(18), 16]) if rng.random() < 0.95 else rng.choice([18, 32, 255])
+    lent = some_lent(rng, t)
+    room = rng.choice([4608, 4608, 0, 2 ** 32 - 1])
+    if rng.random() < 0.6 and t and t.S <= 4096:
+        made = copy.deepcopy(model).burst(expired, 16, bytes(t.S), 4608)[1]
+        some = made[:rng.randint(0, min(len(made), count + 1))]
+        room = max(sum(len(pdu) for pdu, _, _ in some) + rng.choice([-1, 0, 0, 1]), 0)
+    return 'burst', int(expired), count, lent, room
 
 
 def some_cancel(rng, t):
@@ -150,7 +169,7 @@ def some_cancel(rng, t):
     return 'cancel', wider(rng, (8, t.header.source)), wider(rng, t.header.number)
 
 
-def some_call(rng, model, size):
+def some_call(rng, model, size, bursts):
     dice, t = rng.random(), model.t
     if model.at == IDLE and dice < 0.7 or dice < 0.01:
         return some_put(rng, size)
@@ -160,19 +179,22 @@ def some_call(rng, model, size):
         return some_cancel(rng, t)
     if dice < 0.3 or model.at == IDLE and dice > 0.8:
         return some_delivery(rng, t)
-    return some_step(rng, model)
+    return some_burst(rng, model) if bursts and rng.random() < 0.25 else some_step(rng, model)
 
 
-def random_run(rng, label, budget, size=None, room=60000):
-    """A list of about `budget` bytes whose answers stay below `room`."""
+def random_run(rng, label, budget, size=None, room=60000, bursts=False):
+    """A list of about `budget` bytes whose answers stay below `room`, with bursts among the steps or with none."""
     number = rng.choice([(1, 7), (1, 254), (2, 65534), (2, 300), (4, 2 ** 32 - 2), (8, 2 ** 64 - 2), (1, 0), some_id(rng)])
     file = rng.randbytes(rng.choice([5, 16, 40, 64]) if size is None else size)
     model, calls, used, answered = Handler(number), [], 0, 0
     while used < budget and answered < room:
-        call = some_call(rng, model, len(file))
+        call = some_call(rng, model, len(file), bursts)
         calls.append(call)
         if call[0] == 'step':
             answered += 50 + len(model.step(bool(call[1]), file[:call[2]], min(call[3], 4608))[1])
+        elif call[0] == 'burst':
+            made = model.burst(bool(call[1]), call[2], file[:call[3]], min(call[4], 4608))[1]
+            answered += 3 + sum(50 + len(pdu) for pdu, _, _ in made)
         else:
             getattr(model, call[0])(*call[1:])
             answered += 2
@@ -229,12 +251,21 @@ def records(answer):
         if kind == 5:
             n = 1
         if kind == 3:
-            length = int.from_bytes(answer[at + 2:at + 4], 'big')
-            flags = answer[at + 4 + length] if at + 4 + length < len(answer) else 0
-            n = 5 + length + (18 if flags else 0) + (10 if flags & 4 else 0) + (3 if flags & 8 else 0)
+            n = 2 + made_length(answer, at + 2)
+        if kind == 6:
+            n = 3
+            for _ in range(answer[at + 2] if at + 2 < len(answer) else 0):
+                n += made_length(answer, at + n)
         out.append(answer[at:at + n])
         at += n
     return out
+
+
+def made_length(answer, at):
+    """How many bytes tell a step that was made: the PDU's length, the PDU, the events."""
+    length = int.from_bytes(answer[at:at + 2], 'big')
+    flags = answer[at + 2 + length] if at + 2 + length < len(answer) else 0
+    return 3 + length + (18 if flags else 0) + (10 if flags & 4 else 0) + (3 if flags & 8 else 0)
 
 
 def show(program, run):
@@ -251,17 +282,18 @@ def show(program, run):
 
 def compare(program, count, seed):
     """1 if a list differs. `program` is the words that start it."""
-    calls = puts = 0
+    calls = puts = bursted = 0
     for k in range(count):
         rng = random.Random(seed * 1000003 + k)
-        run = random_run(rng, '', 48000, rng.choice([5, 64, 200, 300, 300, 6000]))
+        run = random_run(rng, '', 48000, rng.choice([5, 64, 200, 300, 300, 6000]), bursts=True)
         if differs(program, run):
             print('list %d differs' % k)
             show(program, run)
             return 1
         calls += len(run.calls)
         puts += sum(c[0] == 'put' for c in run.calls)
-    print('%d lists, %d calls, %d of them puts: all as the model says' % (count, calls, puts))
+        bursted += sum(c[0] == 'burst' for c in run.calls)
+    print('%d lists, %d calls, %d of them puts and %d bursts: all as the model says' % (count, calls, puts, bursted))
     return 0
 
 

@@ -3,6 +3,8 @@ use crate::read;
 use crate::write;
 use pdu_read::field::byte_at;
 use pdu_read::field::part_of;
+use types::Answer;
+use types::Bursted;
 use types::State;
 use types::Stepped;
 
@@ -21,6 +23,13 @@ fn stopped(s: State, at: usize, put: usize, status: u8) -> Turn {
         status: status,
         state: s,
     }
+}
+
+// A record's kind, and the refusal's number, 0 if accepted.
+fn add_answer(answers: &mut [u8], put: usize, kind: u64, a: Answer) -> usize {
+    let p = write::add(answers, put, 1, kind);
+    let n = basis::fields::wide(source::answers::answer_no(a));
+    write::add(answers, p, 1, n)
 }
 
 // Kind 1: 251 bytes of configuration, 11 of request, 8 of size, then two names behind their lengths.
@@ -47,14 +56,8 @@ fn put_call(s: State, calls: &[u8], at: usize, answers: &mut [u8], put: usize) -
     let d = source::put(s, c, q, from, to, size);
     let a = d.answer;
     let t = d.state;
-    let p = write::add(answers, put, 1, 1);
-    let p2 = write::add(
-        answers,
-        p,
-        1,
-        basis::fields::wide(source::answers::answer_no(a)),
-    );
-    stopped(t, end, p2, 0)
+    let p = add_answer(answers, put, 1, a);
+    stopped(t, end, p, 0)
 }
 
 // Kind 2: a delivery behind four bytes of length.
@@ -70,14 +73,8 @@ fn deliver_call(s: State, calls: &[u8], at: usize, answers: &mut [u8], put: usiz
     let d = source::deliver(s, part_of(calls, from, n));
     let a = d.answer;
     let t = d.state;
-    let p = write::add(answers, put, 1, 2);
-    let p2 = write::add(
-        answers,
-        p,
-        1,
-        basis::fields::wide(source::answers::answer_no(a)),
-    );
-    stopped(t, read::on(from, n), p2, 0)
+    let p = add_answer(answers, put, 2, a);
+    stopped(t, read::on(from, n), p, 0)
 }
 
 // Kind 3: the expiry flag, four bytes of lent length, four of the out buffer's.
@@ -97,11 +94,9 @@ fn step_call(
     let asked = read::length(calls, read::on(at, 5), 4);
     let mut space = [0u8; 4608];
     let d = step_in(s, lent, expired, asked, &mut space);
-    let e = d.events;
     let t = d.state;
     let p = add_step(answers, put, d, &space);
-    let q = write::add_events(answers, p, e);
-    stopped(t, read::on(at, 9), q, 0)
+    stopped(t, read::on(at, 9), p, 0)
 }
 
 // A step whose out buffer is the first `asked` bytes of the space, or all of it.
@@ -113,15 +108,9 @@ fn step_in(s: State, lent: &[u8], expired: bool, asked: usize, space: &mut [u8])
 fn add_step(answers: &mut [u8], put: usize, d: Stepped, space: &[u8]) -> usize {
     let a = d.answer;
     let n = d.length;
-    let p = write::add(answers, put, 1, 3);
-    let p2 = write::add(
-        answers,
-        p,
-        1,
-        basis::fields::wide(source::answers::answer_no(a)),
-    );
-    let p3 = write::add(answers, p2, 2, n as u64);
-    write::add_bytes(answers, p3, part_of(space, 0, n))
+    let e = d.events;
+    let p = add_answer(answers, put, 3, a);
+    write::add_made(answers, p, n, e, part_of(space, 0, n))
 }
 
 // Kind 4: an entity id and a sequence number.
@@ -153,12 +142,61 @@ fn reset_call(s: State, at: usize, answers: &mut [u8], put: usize) -> Turn {
     stopped(t, at, p, 0)
 }
 
-// One call; its record in the answers takes at most 4,648 bytes, and two more close the answers.
+// Kind 6: the expiry flag, the count, four bytes of lent length, four of the out buffer's.
+fn burst_call(
+    s: State,
+    calls: &[u8],
+    at: usize,
+    file: &[u8],
+    answers: &mut [u8],
+    put: usize,
+) -> Turn {
+    if !read::whole(calls, at, 10) {
+        return stopped(s, at, put, 2);
+    }
+    let expired = byte_at(calls, at) != 0;
+    let count = byte_at(calls, read::on(at, 1)) as usize;
+    let lent = part_of(file, 0, read::length(calls, read::on(at, 2), 4));
+    let asked = read::length(calls, read::on(at, 6), 4);
+    let mut space = [0u8; 4608];
+    let d = burst_in(s, lent, expired, count, asked, &mut space);
+    let t = d.state;
+    let p = add_burst(answers, put, d, &space);
+    stopped(t, read::on(at, 10), p, 0)
+}
+
+// A burst whose out buffer is the first `asked` bytes of the space, or all of it.
+fn burst_in(
+    s: State,
+    lent: &[u8],
+    expired: bool,
+    count: usize,
+    asked: usize,
+    space: &mut [u8],
+) -> Bursted {
+    let room = basis::fields::lesser(asked, space.len());
+    source::burst(s, lent, expired, count, &mut space[..room])
+}
+
+fn add_burst(answers: &mut [u8], put: usize, d: Bursted, space: &[u8]) -> usize {
+    let a = d.answer;
+    let count = d.count;
+    let steps = d.steps;
+    let p = add_answer(answers, put, 6, a);
+    let q = write::add(answers, p, 1, count as u64);
+    write::add_steps(answers, q, steps, count, space)
+}
+
+// A record takes at most 4,648 bytes, that of a burst 5,155: 4,608 of PDUs and sixteen times 34; and two more close the answers.
+fn room_for(kind: u8) -> usize {
+    if kind == 6 { 5200 } else { 4650 }
+}
+
 fn call(s: State, calls: &[u8], at: usize, file: &[u8], answers: &mut [u8], put: usize) -> Turn {
-    if !read::whole(answers, put, 4650) {
+    let kind = byte_at(calls, at);
+    if !read::whole(answers, put, room_for(kind)) {
         return stopped(s, at, put, 3);
     }
-    let kind = byte_at(calls, at);
     let body = read::on(at, 1);
     match kind {
         1 => put_call(s, calls, body, answers, put),
@@ -166,6 +204,7 @@ fn call(s: State, calls: &[u8], at: usize, file: &[u8], answers: &mut [u8], put:
         3 => step_call(s, calls, body, file, answers, put),
         4 => cancel_call(s, calls, body, answers, put),
         5 => reset_call(s, body, answers, put),
+        6 => burst_call(s, calls, body, file, answers, put),
         _ => stopped(s, at, put, 1),
     }
 }

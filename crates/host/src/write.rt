@@ -1,8 +1,11 @@
 // The answers written, each field only where it fits; `run` keeps room for the whole record.
 ghost use Prim.Native.Nat.{_≤_};
+use crate::read::on;
+use pdu_read::field::part_of;
 use types::Events;
 use types::FaultEvent;
 use types::FinishedEvent;
+use types::Made;
 use types::TimerEvent;
 use types::TransactionId;
 
@@ -115,4 +118,36 @@ fn add_id(out: &mut [u8], at: usize, id: TransactionId) -> usize {
     let q = add(out, p, 8, source.1);
     let r = add(out, q, 1, basis::fields::wide(number.0));
     add(out, r, 8, number.1)
+}
+
+// What a step made: the PDU's length, the PDU, the events.
+pub fn add_made(out: &mut [u8], at: usize, n: usize, e: Events, pdu: &[u8]) -> usize {
+    let p = add(out, at, 2, n as u64);
+    let q = add_bytes(out, p, pdu);
+    add_events(out, q, e)
+}
+
+// What the steps of a burst made, whose PDUs lie end to end in `space`.
+pub fn add_steps(
+    out: &mut [u8],
+    at: usize,
+    steps: [Made; 16],
+    count: usize,
+    space: &[u8],
+) -> usize {
+    let mut p = at;
+    let mut from = 0;
+    let mut k = 0;
+    while k < 16 {
+        if k >= count {
+            break;
+        }
+        let m = steps[k];
+        let n = m.length;
+        let e = m.events;
+        p = add_made(out, p, n, e, part_of(space, from, n));
+        from = on(from, n);
+        k += 1;
+    }
+    p
 }

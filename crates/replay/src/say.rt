@@ -1,4 +1,4 @@
-// One line for each answer of the handler; docs/HOST.md has the format of the answers. A line function answers where the next record begins.
+// One line for each answer of the handler, and one more for each step of a burst; docs/HOST.md has the format of the answers. A line function answers where the next record begins.
 use crate::Ids;
 use crate::take::length;
 use crate::take::on;
@@ -102,19 +102,44 @@ fn events(s: &[u8], at: usize, ids: Ids) -> usize {
     q
 }
 
-fn stepped(s: &[u8], at: usize, ids: Ids) -> usize {
-    io::write_all(1, b"  step");
-    number(s, at, 1);
-    let n = length(s, on(at, 1), 2);
+// What a step made: its PDU and its events.
+fn made(s: &[u8], at: usize, ids: Ids) -> usize {
+    let n = length(s, at, 2);
     if n == 0 {
         io::write_all(1, b" -");
     } else {
         io::write_all(1, b" ");
     }
-    hex(part_of(s, on(at, 3), n));
-    let next = events(s, on(at, on(n, 3)), ids);
+    hex(part_of(s, on(at, 2), n));
+    let next = events(s, on(at, on(n, 2)), ids);
     io::write_all(1, b"\n");
     next
+}
+
+fn stepped(s: &[u8], at: usize, ids: Ids) -> usize {
+    io::write_all(1, b"  step");
+    number(s, at, 1);
+    made(s, on(at, 1), ids)
+}
+
+// A line for each of n steps.
+fn each_made(s: &[u8], at: usize, n: usize, ids: Ids) -> usize {
+    let mut p = at;
+    let mut k = 0;
+    while k < n {
+        io::write_all(1, b"   ");
+        p = made(s, p, ids);
+        k += 1;
+    }
+    p
+}
+
+fn bursted(s: &[u8], at: usize, ids: Ids) -> usize {
+    io::write_all(1, b"  burst");
+    number(s, at, 1);
+    number(s, on(at, 1), 1);
+    io::write_all(1, b"\n");
+    each_made(s, on(at, 2), length(s, on(at, 1), 1), ids)
 }
 
 fn line(s: &[u8], at: usize, ids: Ids) -> usize {
@@ -128,6 +153,7 @@ fn line(s: &[u8], at: usize, ids: Ids) -> usize {
             io::write_all(1, b"  reset\n");
             body
         }
+        6 => bursted(s, body, ids),
         255 => refusal(b"  end", s, body),
         _ => {
             io::write_all(1, b"  no answer\n");
