@@ -61,6 +61,10 @@ def seam():
                        ('deliver, NAK of 1 request', 'nak_1'), ('deliver, ACK of EOF', 'ack'), ('deliver, Finished', 'finished'), ('deliver, Keep Alive', 'keep_alive'),
                        ('deliver, refused (22)', 'ack_refused'), ('put, names of one byte', 'put'), ('cancel', 'cancel'), ('reset', 'reset')):
         shown(name, comma(cost(case)))
+    for name, case in (('16 data PDUs with 100 bytes of file', '_100'), ('16 data PDUs of 4,096 bytes, no CRC', ''), ('16 data PDUs of 4,096 bytes, CRC', '_crc'),
+                       ('16 PDUs with 100 bytes of one repair', '_repair'), ('16 repairs of one PDU each, 60 bytes', '_lost')):
+        one, many = cost('burst' + case), cost('sixteen' + case)
+        shown('burst, ' + name, '%s (sixteen calls of step: %s; %.1f percent of that)' % (comma(one), comma(many), 100 * one / many))
     null = cost('eof_null')
     shown('step, EOF with the null checksum', comma(null))
     for kind in 'modular', 'crc32c', 'crc32':

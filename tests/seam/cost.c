@@ -9,11 +9,12 @@ void *memset(void *, int, size_t);
 void *memcpy(void *, const void *, size_t);
 
 #define SIZE 64000
+#define LONG 200000
 #define PASS (1024 * 1024)
 #define PAINT (256 * 1024)
 
 static struct tsendrivaty_handler h;
-static uint8_t file[PASS], out[4096];
+static uint8_t file[PASS], out[4096], burst_out[16 * 4096];
 static uint32_t answer;
 
 /* ---- the calls */
@@ -34,6 +35,18 @@ static void put(uint8_t unacknowledged, size_t size) {
 
 static void step(uint8_t expired) {
     answer = tsendrivaty_step(&h, file, h.transaction.size, expired, out, sizeof out);
+}
+
+/* Sixteen steps in one call. */
+static struct tsendrivaty_burst_report bursted;
+
+static void burst(void) {
+    answer = tsendrivaty_burst(&h, file, h.transaction.size, 0, 16, burst_out, sizeof burst_out, &bursted);
+}
+
+/* The same by sixteen calls. */
+static void sixteen(void) {
+    for (int i = 0; i < 16; i++) step(0);
 }
 
 static void directive(const uint8_t *body, size_t n) {
@@ -83,9 +96,9 @@ static const struct {
     uint64_t segment;
     size_t size;
     int steps;      /* before the call; -1: no put either */
-    char before;    /* delivered before the call: n NAK of a request, a ACK of EOF */
+    char before;    /* delivered before the call: n NAK of a request, l of 40 short ones, a ACK of EOF */
     char call;      /* p put, s step, x refused step, n deliver of a NAK, a of an ACK of EOF, f of a Finished PDU, k of a Keep Alive, u of an ACK that is refused, r reset, c cancel, w a whole
-                       pass, m memcpy of a data PDU's bytes */
+                       pass, b a burst of sixteen steps, 6 the same by sixteen calls, m memcpy of a data PDU's bytes */
     uint32_t naks;
 } CASES[] = {
     {"data", 0, 15, 4096, SIZE, 3, 0, 's', 0},       {"data_crc", 1, 15, 4096, SIZE, 3, 0, 's', 0},  {"data_100", 0, 15, 100, SIZE, 3, 0, 's', 0},
@@ -95,6 +108,10 @@ static const struct {
     {"eof_crc32", 0, 3, 4096, 4000, 2, 0, 's', 0},   {"cancel", 0, 15, 4096, SIZE, 3, 0, 'c', 0},    {"reset", 0, 15, 4096, SIZE, 3, 0, 'r', 0},
     {"refused", 0, 15, 4096, SIZE, 3, 0, 'x', 0},    {"copy", 0, 15, 4096, SIZE, 3, 0, 'm', 0},      {"ack", 0, 15, 4096, 4000, 3, 0, 'a', 0},
     {"finished", 0, 15, 4096, 4000, 3, 'a', 'f', 0}, {"keep_alive", 0, 15, 4096, SIZE, 3, 0, 'k', 0}, {"ack_refused", 0, 15, 4096, SIZE, 3, 0, 'u', 0},
+    {"burst", 0, 15, 4096, LONG, 3, 0, 'b', 0},      {"burst_100", 0, 15, 100, LONG, 3, 0, 'b', 0},  {"burst_repair", 0, 15, 100, SIZE, 90, 'n', 'b', 0},
+    {"sixteen", 0, 15, 4096, LONG, 3, 0, '6', 0},    {"sixteen_100", 0, 15, 100, LONG, 3, 0, '6', 0}, {"sixteen_repair", 0, 15, 100, SIZE, 90, 'n', '6', 0},
+    {"burst_lost", 0, 15, 100, SIZE, 90, 'l', 'b', 0}, {"sixteen_lost", 0, 15, 100, SIZE, 90, 'l', '6', 0},
+    {"burst_crc", 1, 15, 4096, LONG, 3, 0, 'b', 0},  {"sixteen_crc", 1, 15, 4096, LONG, 3, 0, '6', 0},
     {"pass", 0, 15, 4096, SIZE, -1, 0, 'w', 0},      {"pass_crc", 1, 15, 4096, SIZE, -1, 0, 'w', 0},
 };
 #define COUNT (sizeof CASES / sizeof CASES[0])
@@ -106,6 +123,10 @@ static void prepared(size_t k) {
     else
         at_data(CASES[k].crc, CASES[k].checksum, CASES[k].segment, CASES[k].size, CASES[k].steps);
     if (CASES[k].before == 'n') nak(1);
+    if (CASES[k].before == 'l') {
+        asked(64, 60);
+        nak(40);
+    }
     if (CASES[k].before == 'a') ack_of_eof();
 }
 
@@ -124,6 +145,8 @@ __attribute__((noinline)) static void called(size_t k) {
     case 'k': keep_alive(); break;
     case 'u': ack_of_eof(); answer = answer != 22; break;
     case 'w': pass(); break;
+    case 'b': burst(); break;
+    case '6': sixteen(); break;
     case 'm': memcpy(out, file, *(volatile size_t *)&piece); break;
     }
 }
@@ -162,9 +185,15 @@ static void stacks(void) {
         deep("put", put_acknowledged); /* refused */
         deep("step", quiet_step);
         deep("step", quiet_step);
+        const struct tsendrivaty_handler before = h;
+        deep("burst", burst);
+        h = before;
         asked(64, 4000);
         deep("deliver", nak_of_64);
         deep("deliver", nak_of_1); /* refused */
+        const struct tsendrivaty_handler asked_for = h;
+        deep("burst", burst);
+        h = asked_for;
         deep("step", quiet_step);
         for (int i = 0; i < 65; i++) step(0);
         for (int i = 0; i < 4; i++) deep("step", expired_step); /* EOF, the same twice, a fault that cancels */
@@ -177,6 +206,9 @@ static void stacks(void) {
         step(0);
         step(0);
         deep("cancel", cancel);
+        const struct tsendrivaty_handler cancelled = h;
+        deep("burst", burst);
+        h = cancelled;
         deep("step", quiet_step);
         deep("reset", reset);
     }
