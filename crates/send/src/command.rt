@@ -219,6 +219,7 @@ fn with_output(w: Words, s: State, file: &[u8], answers: &[u8], count: u64, pcap
         form: w.form,
         capture: pcap,
         timed: w.timed,
+        burst: w.burst as usize,
     };
     summary(run::to_the_end(s, file, answers, o), count);
 }

@@ -8,12 +8,13 @@ use send_text::text::hex_line;
 use send_text::text::text;
 use types::Answer;
 
-// The output and its form (0 framed, 1 hex, 2 hex with its meaning), the capture (-1: none), and whether the timer expires.
+// The output and its form (0 framed, 1 hex, 2 hex with its meaning), the capture (-1: none), whether the timer expires, and the steps of a burst (0: no bursts).
 pub struct Output {
     pub fd: i32,
     pub form: u8,
     pub capture: i32,
     pub timed: bool,
+    pub burst: usize,
 }
 
 // ---- what leaves

@@ -7,15 +7,21 @@ use crate::frames::on;
 use crate::output::Output;
 use crate::output::shown;
 use crate::output::written;
+use basis::fields::lesser;
 use pdu_read::field::part_of;
+use pdu_read::field::up_to;
 use send_text::pdu::Sum;
 use send_text::pdu::plus;
 use send_text::pdu::sum_of;
 use send_text::tell;
 use send_text::tell::Tally;
+use source_queue::served;
 use source_state::is_idle;
 use types::Answer;
+use types::Bursted;
 use types::Events;
+use types::Made;
+use types::Queue;
 use types::Refusal;
 use types::State;
 use types::Stepped;
@@ -195,6 +201,118 @@ fn stepped(t: Pass, file: &[u8], answers: &[u8], o: Output) -> Pass {
     after(t, d, &space, answers, o)
 }
 
+// ---- bursts
+
+// A burst goes on after each PDU without the state that this left, but for the queue: it holds what `served` leaves, so that a repair is known.
+struct Midway {
+    pass: Pass,
+    queue: Queue,
+    at: usize,
+}
+
+// No burst goes past the PDU that has a sign of life beside it, which shows the state behind it.
+fn count_of(pdus: u64, burst: usize) -> usize {
+    lesser(burst, up_to((pdus % 256) as usize, 256))
+}
+
+// The PDU of one step more, where there is one; s is the state behind the burst.
+fn with_made(l: Midway, m: Made, s: State, segment: u64, space: &[u8], o: Output) -> Midway {
+    let t = l.pass;
+    let q = l.queue;
+    if m.length == 0 {
+        return l;
+    }
+    if !t.going {
+        return l;
+    }
+    let repair = q.count > 0;
+    let e = m.events;
+    let pdu = part_of(space, l.at, m.length);
+    Midway {
+        pass: emitted(t, s, e, pdu, repair, o),
+        queue: served(segment, q),
+        at: on(l.at, m.length),
+    }
+}
+
+// The PDUs of a burst, end to end in space; a place without a step has none.
+fn laid(t: Pass, b: Bursted, space: &[u8], o: Output) -> Pass {
+    let q = t.state.queue;
+    let segment = t.state.fixed.segment;
+    let steps = b.steps;
+    let s = b.state;
+    let mut l = Midway {
+        pass: t,
+        queue: q,
+        at: 0,
+    };
+    let mut i = 0;
+    while i < 16 {
+        let m = steps[i];
+        l = with_made(l, m, s, segment, space, o);
+        i += 1;
+    }
+    l.pass
+}
+
+// A write failed within the burst that t began: the state behind the PDUs that are whole, which the same steps make again.
+fn cut(t: Pass, u: Pass, file: &[u8]) -> Pass {
+    let s = t.state;
+    let n = up_to(t.tally.pdus as usize, u.tally.pdus as usize);
+    let mut space = io::large_buffer();
+    let b = source::burst(s, file, t.expired, n, &mut space);
+    ended(u, b.state)
+}
+
+// Behind the PDUs of a burst: its last step may have emitted nothing.
+fn behind(u: Pass, m: Made, s: State, answers: &[u8], o: Output) -> Pass {
+    if m.length > 0 {
+        return u;
+    }
+    let e = m.events;
+    tell::events(e);
+    quiet(u, s, answers, o)
+}
+
+fn burst_accepted(
+    t: Pass,
+    b: Bursted,
+    space: &[u8],
+    file: &[u8],
+    answers: &[u8],
+    o: Output,
+) -> Pass {
+    let u = laid(t, b, space, o);
+    if u.going {
+        let last = lesser(up_to(1, b.count), 15);
+        return behind(u, b.steps[last], b.state, answers, o);
+    }
+    cut(t, u, file)
+}
+
+// No PDU is longer than 4,096 bytes, so sixteen have room.
+fn bursted(t: Pass, file: &[u8], answers: &[u8], o: Output) -> Pass {
+    let s = t.state;
+    let n = count_of(t.tally.pdus, o.burst);
+    let mut space = io::large_buffer();
+    let b = source::burst(s, file, t.expired, n, &mut space);
+    let a = b.answer;
+    let next = b.state;
+    match a {
+        Answer::Refused(r) => refused(t, next, r),
+        Answer::Accepted => burst_accepted(t, b, &space, file, answers, o),
+    }
+}
+
+// ---- from the first step to the last
+
+fn called(t: Pass, file: &[u8], answers: &[u8], o: Output) -> Pass {
+    if o.burst == 0 {
+        return stepped(t, file, answers, o);
+    }
+    bursted(t, file, answers, o)
+}
+
 fn started(s: State) -> Pass {
     let tally = Tally {
         pdus: 0,
@@ -221,7 +339,7 @@ pub fn to_the_end(s: State, file: &[u8], answers: &[u8], o: Output) -> Pass {
         if !t.going {
             break;
         }
-        t = stepped(t, file, answers, o);
+        t = called(t, file, answers, o);
         turns -= 1;
     }
     t

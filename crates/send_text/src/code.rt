@@ -76,7 +76,7 @@ pub fn refusal(out: &mut [u8], at: usize, before: &[u8], r: Refusal) -> usize {
         p,
         b"1 AlreadyBusy;2 BadIdWidth;3 NoRemoteCfgFound;4 BadConfig;5 BadNameLength;6 SourceFileNotValidUtf8;\
           7 DestFileNotValidUtf8;8 PacketLimit;20 Malformed;21 CantProcessPacketType;22 UnexpectedPdu;\
-          23 OtherTransaction;24 InvalidNakPdu;25 RetransmitFull;30 FileChanged;31 OutTooSmall;",
+          23 OtherTransaction;24 InvalidNakPdu;25 RetransmitFull;30 FileChanged;31 OutTooSmall;32 BurstTooLong;",
         place(r),
     )
 }

@@ -34,10 +34,10 @@ fn with_number(w: Words, key: &[u8], n: u64) -> Taken {
     }
 }
 
-// A width and a limit are bytes.
+// A width and a limit are bytes, and a burst has at most sixteen steps.
 fn with_byte(w: Words, key: &[u8], n: u64) -> Taken {
     let mut v = w;
-    match place_in(b"idwidth;seqwidth;limit;", key) {
+    match place_in(b"idwidth;seqwidth;limit;burst;", key) {
         0 => {
             v.idwidth = n;
             at_most(v, n, 8)
@@ -50,6 +50,10 @@ fn with_byte(w: Words, key: &[u8], n: u64) -> Taken {
             v.limit = n;
             v.timed = true;
             at_most(v, n, 255)
+        }
+        3 => {
+            v.burst = n;
+            at_most(v, n, 16)
         }
         _ => Taken::UnknownWord,
     }

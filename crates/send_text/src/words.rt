@@ -15,6 +15,8 @@ pub struct Words {
     pub limit: u64,
     // a limit was given
     pub timed: bool,
+    // steps a call, 0: no bursts
+    pub burst: u64,
     pub unacknowledged: bool,
     pub closure: bool,
     pub crc: bool,
@@ -39,6 +41,7 @@ pub fn defaults() -> Words {
         packet: 1024,
         limit: 1,
         timed: false,
+        burst: 0,
         unacknowledged: true,
         closure: false,
         crc: false,

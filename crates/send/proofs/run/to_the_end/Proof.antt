@@ -16,8 +16,8 @@ started-requires c κs = search needs
 loop-holds : tie.Need-loop-holds Inv-loop μ-loop
 loop-holds c = search needs
 
-stepped-requires : tie.Need-stepped-requires Inv-loop μ-loop
-stepped-requires c κs = search needs
+called-requires : tie.Need-called-requires Inv-loop μ-loop
+called-requires c κs = search needs
 
 sub-turns : tie.Need-sub-turns Inv-loop μ-loop
 sub-turns c = search needs
@@ -42,7 +42,7 @@ to-the-end-spec =
     μ-loop
     started-requires
     loop-holds
-    stepped-requires
+    called-requires
     sub-turns
     loop-less
     loop-again
