@@ -50,7 +50,7 @@ steps-most (suc n) s file expired room =
     go Accepted r false rs h = omega arith
     go (Refused k) r quiet rs h = omega arith
 
-pos : (n : ℕ) → ¬ (n ≡ 0) → 0 < n
+pub pos : (n : ℕ) → ¬ (n ≡ 0) → 0 < n
 pos zero h = absurd (h refl)
 pos (suc n) h = omega arith
 

@@ -3,7 +3,7 @@
 use mathlib.Core.Path.{_≡_, refl, sym, ap, ap₂, subst, _∙_}
 use mathlib.Core.Bool.{Bool, true, false, true≢false}
 use mathlib.Core.List.{List, [], _∷_, _++_, map, map-append, append-assoc, append-nil}
-use Prim.Native.Nat.{ℕ, zero, suc, _+_, _-_, _<_, _≤_}
+use Prim.Native.Nat.{ℕ, suc, _+_, _-_, _<_, _≤_}
 use native.Mathlib.Omega.{arith}
 use lib.Dec.{eqb, ltb}
 use lib.ListN.{length, take, drop, set, length-append, length-map, length-drop, take-append-drop, replicate}
@@ -16,7 +16,7 @@ use Rattle.rules.specs.Burst.{ifMade, stepsOf, laidOf, burstAnswer, allowed, ma
 use Rattle.rules.specs.Runs.{madeIn}
 use Rattle.rules.proofs.Exactly.{numbered, step-keeps, refusal-changes-nothing}
 use Rattle.rules.proofs.Singly.{step-length}
-use Rattle.source_step.proofs.Bursting.{step-room, part-rest, put-rest}
+use Rattle.source_step.proofs.Bursting.{last-more, step-room, part-rest, put-rest}
 use borrow.Rule.Slice.PartMut.{midOf, putMid}
 use Rattle.basis.specs.Laid.{inFront}
 use Rattle.seam_rules.specs.Memory.{flagOf, stateOf, heldOf, reported, reportOf, noReport}
@@ -96,10 +96,6 @@ starts h r file expired n out p m =
       why = λ e. rw e;
       first = λ e l. (refl, refl, refl);
     }
-
-last-more : (s : State) (rs : List Stepped) (q : Stepped) → lastOf s (rs ++ q ∷ []) ≡ q .state
-last-more s [] q = refl
-last-more s (p ∷ rs) q = last-more (p .state) rs q
 
 report-more : (r : Report) (rs : List Stepped) (q : Stepped) → lastReport r (map madeOf (rs ++ q ∷ [])) ≡ reported (madeOf q)
 report-more r [] q = refl

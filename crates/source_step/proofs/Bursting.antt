@@ -44,13 +44,9 @@ put-rest a xs ys l =
 abbrev pub burstOf : Answer → State → List Stepped → Bursted
 burstOf a s rs = record { answer = a; count = length rs; steps = inPlaces (map madeOf rs); state = lastOf s rs }
 
-last-more : (s : State) (rs : List Stepped) (r : Stepped) → lastOf s (rs ++ r ∷ []) ≡ r .state
+pub last-more : (s : State) (rs : List Stepped) (r : Stepped) → lastOf s (rs ++ r ∷ []) ≡ r .state
 last-more s [] r = refl
 last-more s (q ∷ rs) r = last-more (q .state) rs r
-
-last-append : (s : State) (rs qs : List Stepped) → lastOf s (rs ++ qs) ≡ lastOf (lastOf s rs) qs
-last-append s [] qs = refl
-last-append s (r ∷ rs) qs = last-append (r .state) rs qs
 
 -- the next of the sixteen places
 placed : (ms : List Made) (m : Made) → length ms < 16 → set (inPlaces ms) (length ms) m ≡ inPlaces (ms ++ m ∷ [])
@@ -359,10 +355,6 @@ first-made s file expired (suc n) out l m e =
     )
 
 -- ---- behind the first step, as the code has it
-
-pub some-asked : (n : ℕ) → (n ≡ 0 → ⊥) → 0 < n
-some-asked zero h = absurd (h refl)
-some-asked (suc n) h = omega arith
 
 module _ (s : State) (file : List ℕ) (expired : Bool) (count : ℕ) (out : List ℕ) (l : 0 < count) (m : count ≤ 16)
     (r : Stepped) (e : r ≡ stepSpec s file expired (length out)) (o : List ℕ) (f : o ≡ stepBytes s file expired out) where

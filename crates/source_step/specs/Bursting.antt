@@ -1,6 +1,6 @@
 -- How the code of a burst goes on step by step: what it has made so far, and where it stands.
 -- Assumes nothing.
-use mathlib.Core.Bool.{Bool, false}
+use mathlib.Core.Bool.{false}
 use mathlib.Core.List.{List}
 use Prim.Native.Nat.{ℕ, zero, suc, _+_, _-_}
 use lib.Dec.{eqb}
@@ -11,7 +11,6 @@ use Rattle.rules.specs.Burst.{madeOf, noneMade}
 use Rattle.types.specs.declared.State.{State}
 use Rattle.types.specs.declared.Stepped.{Stepped}
 use Rattle.types.specs.declared.Bursted.{Bursted}
-use Rattle.types.specs.declared.Refusal.{Refusal}
 use Rattle.types.specs.declared.Answer.{Answer}
 use Rattle.types.specs.declared.Answer.the-variants.{Accepted, Refused}
 use Rattle.source_step.specs.declared.going.Going.{Going}

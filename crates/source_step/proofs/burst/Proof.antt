@@ -1,7 +1,8 @@
 -- Too long, none asked for, or by the first step. Assumes nothing.
 use mathlib.Core.Path.{_∙_}
 use borrow.Author.Needs.{needs}
-use Rattle.source_step.proofs.Bursting.{too-long, of-none, some-asked, first-stands, first-done, first-not}
+use Rattle.rules.proofs.Bursts.{pos}
+use Rattle.source_step.proofs.Bursting.{too-long, of-none, first-stands, first-done, first-not}
 use Rattle.source_step.proofs.burst.Statement.{statement}
 use Rattle.source_step.proofs.burst.Tie as tie
 
@@ -35,7 +36,7 @@ begun-requires c κs = search needs
 gone-on-requires : tie.Need-gone-on-requires
 gone-on-requires c κs =
     let a = c .before .before .before .before .before .before .before .before .before .before .before .before .args in
-    let l = some-asked (a .count) (c .before .before .before .before .before .before .before .before .if2 .left) in
+    let l = pos (a .count) (c .before .before .before .before .before .before .before .before .if2 .left) in
     let m = c .before .before .before .before .before .before .before .before .before .if1 .left in
     let e = c .before .before .before .before .before .before .step .ensures in
     first-stands (a .s) (a .file .now) (a .expired) (a .count) (a .out .now) l m _ (e .0) _ (e .1) _ (c .before .begun .ensures)
@@ -52,7 +53,7 @@ same-length c = search needs
 returns-3 : tie.Need-returns-3
 returns-3 c =
     let a = c .before .before .before .before .before .before .before .before .before .before .before .before .before .before .before .args in
-    let l = some-asked (a .count) (c .before .before .before .before .before .before .before .before .before .before .before .if2 .left) in
+    let l = pos (a .count) (c .before .before .before .before .before .before .before .before .before .before .before .if2 .left) in
     let m = c .before .before .before .before .before .before .before .before .before .before .before .before .if1 .left in
     let e = c .before .before .before .before .before .before .before .before .before .step .ensures in
     let g = c .before .before .gone-on .ensures in
@@ -64,7 +65,7 @@ same-length-2 c = search needs
 returns-4 : tie.Need-returns-4
 returns-4 c =
     let a = c .before .before .before .before .before .before .before .before .before .before .before .before .args in
-    let l = some-asked (a .count) (c .before .before .before .before .before .before .before .before .if2 .left) in
+    let l = pos (a .count) (c .before .before .before .before .before .before .before .before .if2 .left) in
     let m = c .before .before .before .before .before .before .before .before .before .if1 .left in
     let e = c .before .before .before .before .before .before .step .ensures in
     let k = c .before .before .a .given in

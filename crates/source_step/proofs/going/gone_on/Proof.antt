@@ -4,7 +4,6 @@ use mathlib.Core.Bool.{false}
 use Prim.Native.Nat.{ℕ, _+_, _-_, _<_, _≤_}
 use native.Mathlib.Omega.{arith}
 use lib.ListN.{length}
-use borrow.Author.Needs.{needs}
 use Rattle.types.specs.declared.Stepped.{Stepped}
 use Rattle.source_step.specs.declared.going.Going.{Going}
 use Rattle.source_step.proofs.Bursting.{step-room, Goes, goes-first, fewer, goes-on, goes-last}
