@@ -208,6 +208,6 @@ pub fn usage() {
         b"    [closure=yes|no] [crc=yes|no] [checksum=modular|crc32c|crc32|null] [segment=1024] [packet=1024]\n",
     );
     line(
-        b"    [source=NAME] [dest=NAME] [limit=N] [out=FILE] [pcap=FILE] [answers=FILE] [--hex] [--say]\n",
+        b"    [source=NAME] [dest=NAME] [limit=N] [burst=N] [out=FILE] [pcap=FILE] [answers=FILE] [--hex] [--say]\n",
     );
 }
