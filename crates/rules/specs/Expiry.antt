@@ -25,9 +25,9 @@ pub record ExpiryDue : Type 0 where
   pub fault : (s : State) → Waits s → s .fixed .limit ≤ s .marks .count + 1 → dueOf s true ≡ faultDue s 1
   pub waits : (s : State) → Waits s → dueOf s false ≡ Nothing
 
--- the kept EOF's PDU
+-- the PDU of the EOF that left (step-leaves: `Again`)
 abbrev pub keptPdu : State → List ℕ
-keptPdu s = encode (s .fixed .head) (eof (s .file .eof .condition) (s .file .eof .sum) (s .file .eof .size))
+keptPdu s = encode (s .fixed .head) (eof (s .marks .condition) (s .file .sum) (s .file .progress))
 
 -- the state with another expiry count, all else as before
 abbrev pub recounted : State → ℕ → State
@@ -42,7 +42,7 @@ abbrev pub expiries : ℕ → List ℕ → List ℕ → List Call
 expiries k file out = replicate k (one (step file true out))
 
 pub record CountedFrom (s : State) (file out : List ℕ) : Type 0 where
-  -- each of these steps emits the kept EOF's bytes again
+  -- each of these steps emits that EOF's bytes again
   pub resends : (k : ℕ) → k ≤ repeatsLeft s → trace (expiries k file out) s ≡ replicate k (went (some (keptPdu s)))
   -- and moves the count by one, and nothing else of the state
   pub counts : (k : ℕ) → k ≤ repeatsLeft s → behind (expiries k file out) s ≡ recounted s (s .marks .count + k)

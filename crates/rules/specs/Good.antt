@@ -97,10 +97,6 @@ pub record GoodMarks (m : Marks) : Type 0 where
 abbrev pub AllSent : State → Type 0
 AllSent s = s .marks .cancelled ≡ false → s .file .progress ≡ s .fixed .size
 
--- the kept EOF is of the bytes sent, with the transaction's condition
-abbrev pub Kept : State → Type 0
-Kept s = s .marks .owed ≡ false → (s .file .eof .size ≡ s .file .progress) × (s .file .eof .condition ≡ s .marks .condition)
-
 -- cancelled, and the EOF not yet sent, or not cancelled
 abbrev pub OwedIfCancelled : State → Type 0
 OwedIfCancelled s = s .marks .owed ≡ s .marks .cancelled
@@ -110,7 +106,7 @@ At Idle s = s ≡ idle (s .number)
 At SendingMetadata s = Under s × OwedIfCancelled s × (s .file ≡ noFile) × (s .queue ≡ emptyQueue)
 At SendingFileData s = Under s × OwedIfCancelled s × (s .file .progress < s .fixed .size)
 At SendingEof s = Under s × OwedIfCancelled s × (s .file .progress ≡ s .fixed .size)
-At WaitingForEofAck s = Under s × (s .fixed .head .unacknowledged ≡ false) × AllSent s × Kept s
+At WaitingForEofAck s = Under s × (s .fixed .head .unacknowledged ≡ false) × AllSent s
 At WaitingForFinished s = Under s × (s .fixed .head .unacknowledged ≡ true → s .fixed .closure ≡ true) × AllSent s
 At Closing s = Under s × (s .marks .owed ≡ false) × (s .queue ≡ emptyQueue) × AllSent s
 
@@ -119,7 +115,7 @@ At Closing s = Under s × (s .marks .owed ≡ false) × (s .queue ≡ emptyQueue
 pub record Good (s : State) : Type 0 where
   pub queue : GoodQueue (s .file .progress) (s .queue)
   pub progress : s .file .progress ≤ s .fixed .size
-  pub sum : s .file .eof .sum < 2 ^ 32
+  pub sum : s .file .sum < 2 ^ 32
   -- the expiry count stays below the limit
   pub count : s .marks .count ≤ s .fixed .limit - 1
   pub marks : GoodMarks (s .marks)

@@ -4,10 +4,11 @@
 use mathlib.Core.Path.{_≡_}
 use mathlib.Core.Bool.{Bool, true, false}
 use mathlib.Core.List.{List, [], _∷_, _++_}
-use mathlib.Core.Option.{some}
+use mathlib.Core.Option.{Option, some}
 use Prim.Native.Nat.{ℕ, _+_, _-_, _≤_, _<_, min}
-use lib.ListN.{length, replicate}
+use lib.ListN.{length, take, drop, replicate}
 use Rattle.basis.specs.Bytes.{Bytes}
+use Rattle.rules_leaves.specs.Checksum.{sumOf}
 use Rattle.rules_pdu.specs.Layout.{Said, eof}
 use Rattle.rules_pdu.specs.Decoding.{decode}
 use Rattle.rules_pdu.specs.Reading.{wellFramed, frameIn, bodyIn, bodyOf}
@@ -46,7 +47,7 @@ pub record NothingKept (t : State) : Type 0 where
       (f .closure ≡ false) × (f .checksum ≡ 0) × (f .segment ≡ 0) × (f .size ≡ 0) × (f .limit ≡ 0) × (f .actions ≡ replicate 16 0) × (f .eofsent ≡ false) × (f .finished ≡ false)
   pub source : (t .names .source ≡ replicate 255 0) × (t .names .sourcelen ≡ 0)
   pub destination : (t .names .destination ≡ replicate 255 0) × (t .names .destinationlen ≡ 0)
-  pub file : let f = t .file in (f .progress ≡ 0) × (f .eof .condition ≡ 0) × (f .eof .sum ≡ 0) × (f .eof .size ≡ 0)
+  pub file : (t .file .progress ≡ 0) × (t .file .sum ≡ 0)
   pub queue : EmptyQueue (t .queue)
   pub marks : let m = t .marks in (m .cancelled ≡ false) × (m .owed ≡ false) × (m .condition ≡ 0) × (m .count ≡ 0) × (m .anomalies ≡ 0)
   pub finished : let f = t .marks .finished in (f .condition ≡ 0) × (f .delivery ≡ 0) × (f .status ≡ 0)
@@ -75,14 +76,23 @@ SameMarks s t =
 
 -- ---- a step, by its case
 
--- "Acknowledged: count 0, .. WaitingForEofAck": the EOF that left is kept, nothing is owed, and progress stays
-pub record AwaitsAck (s t : State) (left : Said) : Type 0 where
+-- "Acknowledged: count 0, .. WaitingForEofAck": nothing is owed, and progress stays
+pub record AwaitsAck (s t : State) : Type 0 where
   pub step : t .step ≡ WaitingForEofAck
   pub same : Same s t
-  pub progress : t .file .progress ≡ s .file .progress
-  pub kept : left ≡ eof (t .file .eof .condition) (t .file .eof .sum) (t .file .eof .size)
+  pub file : t .file ≡ s .file
   pub count : (t .marks .count ≡ 0) × (t .marks .owed ≡ false)
   pub finished : (t .marks .finished ≡ s .marks .finished) × (t .marks .anomalies ≡ s .marks .anomalies)
+
+-- "same EOF again": what an expiry sends from t is what left
+abbrev pub Again : Option Said → State → Type 0
+Again left t = left ≡ some (eof (t .marks .condition) (t .file .sum) (t .file .progress))
+
+-- the checksum goes on over the bytes that leave: whatever bytes before those the stored number is of
+abbrev pub GoesOnOver : State → List ℕ → State → Type 0
+GoesOnOver s bytes t =
+    (before : List ℕ) → s .file .sum ≡ sumOf (s .fixed .checksum) before → s .file .progress ≡ length before
+    → t .file .sum ≡ sumOf (s .fixed .checksum) (before ++ bytes)
 
 -- "one PDU of the oldest request": it is gone with its last piece, else its rest stands there; the others stay behind it
 abbrev pub Served : ℕ → List SegmentRequest → List SegmentRequest → Type 0
@@ -95,7 +105,7 @@ abbrev pub Left : State → List ℕ → Due → State → Type 0
 Left s file CancelEof t =
     (s .fixed .head .unacknowledged ≡ true → Back s t)
     × (s .fixed .head .unacknowledged ≡ false
-    → AwaitsAck s t (eofOfSent s file (s .marks .condition))
+    → AwaitsAck s t × Again (named s file CancelEof) t
     × (t .marks .cancelled ≡ s .marks .cancelled) × (t .marks .condition ≡ s .marks .condition) × (t .queue ≡ s .queue))
 Left s file Repair t =
     (t .step ≡ s .step) × Same s t × (t .file ≡ s .file) × (t .marks ≡ s .marks)
@@ -108,20 +118,21 @@ Left s file Data t =
     (t .file .progress ≡ s .file .progress + min (s .fixed .segment) (s .fixed .size - s .file .progress))
     × (t .file .progress ≡ s .fixed .size → t .step ≡ SendingEof)
     × (¬ (t .file .progress ≡ s .fixed .size) → t .step ≡ s .step)
-    × Same s t × (t .file .eof ≡ s .file .eof) × (t .queue ≡ s .queue) × (t .marks ≡ s .marks)
+    × GoesOnOver s (take (min (s .fixed .segment) (s .fixed .size - s .file .progress)) (drop (s .file .progress) file)) t
+    × Same s t × (t .queue ≡ s .queue) × (t .marks ≡ s .marks)
 Left s file NoErrorEof t =
     (s .fixed .head .unacknowledged ≡ true → s .fixed .closure ≡ false → Back s t)
     × (s .fixed .head .unacknowledged ≡ true → s .fixed .closure ≡ true
-    → (t .step ≡ WaitingForFinished) × Same s t × (t .file .progress ≡ s .file .progress) × (t .queue ≡ s .queue) × (t .marks ≡ s .marks))
-    × (s .fixed .head .unacknowledged ≡ false → (left : Said) → named s file NoErrorEof ≡ some left
-    → AwaitsAck s t left × (t .marks .cancelled ≡ s .marks .cancelled) × (t .marks .condition ≡ s .marks .condition) × (t .queue ≡ s .queue))
+    → (t .step ≡ WaitingForFinished) × Same s t × (t .file ≡ s .file) × (t .queue ≡ s .queue) × (t .marks ≡ s .marks))
+    × (s .fixed .head .unacknowledged ≡ false
+    → AwaitsAck s t × (Good s → Again (named s file NoErrorEof) t) × (t .marks .cancelled ≡ s .marks .cancelled) × (t .marks .condition ≡ s .marks .condition) × (t .queue ≡ s .queue))
 Left s file EofAgain t =
     (t .marks .count ≡ s .marks .count + 1)
     × (t .marks .owed ≡ s .marks .owed) × SameMarks s t × (t .step ≡ s .step) × Same s t × (t .file ≡ s .file) × (t .queue ≡ s .queue)
 Left s file (FaultCancel c) t =
     (s .fixed .head .unacknowledged ≡ true → Back s t)
     × (s .fixed .head .unacknowledged ≡ false
-    → AwaitsAck s t (eofOfSent s file c) × (t .marks .cancelled ≡ true) × (t .marks .condition ≡ c) × EmptyQueue (t .queue))
+    → AwaitsAck s t × Again (named s file (FaultCancel c)) t × (t .marks .cancelled ≡ true) × (t .marks .condition ≡ c) × EmptyQueue (t .queue))
 Left s file (FaultIgnore c) t =
     (t .marks .count ≡ 0) × (t .marks .owed ≡ s .marks .owed) × SameMarks s t × (t .step ≡ s .step) × Same s t × (t .file ≡ s .file) × (t .queue ≡ s .queue)
 Left s file (FaultAbandon c) t = Back s t
@@ -146,7 +157,7 @@ pub record CancelLeaves : Type 0 where
   pub sends : (s : State) (source : EntityId) (number : TransactionSeqNum) → cancelSpec s source number .yes ≡ true → Good s
       → (file : List ℕ) (expired : Bool) (out : List ℕ) → Bytes file → let t = cancelSpec s source number .state in
       stepSpec t file expired (length out) .answer ≡ Accepted
-      → decode (pduOf t file expired out) ≡ some (record { head = s .fixed .head; said = eofOfSent s file 15 })
+      → decode (pduOf t file expired out) ≡ some (record { head = s .fixed .head; said = eofOfSent s 15 })
 
 -- ---- deliver
 

@@ -22,3 +22,4 @@ pub mod Expiry
 pub mod Makes
 pub mod Says
 pub mod Leaves
+pub mod Sums

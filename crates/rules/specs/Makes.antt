@@ -25,6 +25,8 @@ pub record PutMade (s : State) (c : LocalEntityConfig) (q : PutRequest) (source 
   -- "Put ends in SendingMetadata, with progress, queue, condition and cancel mark cleared."
   pub step : t .step ≡ SendingMetadata
   pub progress : t .file .progress ≡ 0
+  -- R-2: the running checksum, of no bytes
+  pub sum : t .file .sum ≡ 0
   pub queue : t .queue .count ≡ 0
   pub marks : (t .marks .cancelled ≡ false) × (t .marks .owed ≡ false) × (t .marks .condition ≡ 0) × (t .marks .count ≡ 0)
   pub mode : let e = entryOf c (q .destination .1) in Chosen (q .unacknowledged) (e .unacknowledged) (t .fixed .head .unacknowledged)

@@ -11,7 +11,6 @@ use lib.Dec.{eqb}
 use lib.ListN.{length, getD, take, drop}
 use Rattle.basis.specs.Pick.{pick, _and_}
 use Rattle.basis.specs.Bytes.{Bytes}
-use Rattle.rules_leaves.specs.Checksum.{sumOf}
 use Rattle.rules_pdu.specs.Layout.{Said, metadata, fileData, eof, ackFinished, encode}
 use Rattle.rules_pdu.specs.Decoding.{withHead, decode}
 use Rattle.rules.specs.Queues.{pending}
@@ -68,9 +67,9 @@ DueApplies = (s : State) (expired : Bool) → Applies s expired (dueOf s expired
 
 -- ---- what leaves
 
--- "size = progress, checksum over progress"
-abbrev pub eofOfSent : State → List ℕ → ℕ → Said
-eofOfSent s file condition = eof condition (sumOf (s .fixed .checksum) (take (s .file .progress) file)) (s .file .progress)
+-- "size = progress, checksum over progress"; R-2: the stored number (specs/Sums.antt says of which bytes it is)
+abbrev pub eofOfSent : State → ℕ → Said
+eofOfSent s condition = eof condition (s .file .sum) (s .file .progress)
 
 -- "closure 1 (written 0 in acknowledged mode)", and the names as they were copied
 abbrev pub itsMetadata : State → Said
@@ -90,13 +89,13 @@ answerTo s file (r ∷ rs) =
 
 -- the PDU that document 01 names for each case
 abbrev pub named : State → List ℕ → Due → Option Said
-named s file CancelEof = some (eofOfSent s file (s .marks .condition))
+named s file CancelEof = some (eofOfSent s (s .marks .condition))
 named s file Repair = answerTo s file (pending (s .queue))
 named s file Metadata = some (itsMetadata s)
 named s file Data = some (bytesAt file (s .file .progress) (min (s .fixed .segment) (s .fixed .size - s .file .progress)))
-named s file NoErrorEof = some (eof 0 (sumOf (s .fixed .checksum) file) (s .fixed .size))
-named s file EofAgain = some (eof (s .file .eof .condition) (s .file .eof .sum) (s .file .eof .size))
-named s file (FaultCancel c) = some (eofOfSent s file c)
+named s file NoErrorEof = some (eof 0 (s .file .sum) (s .fixed .size))
+named s file EofAgain = some (eofOfSent s (s .marks .condition))
+named s file (FaultCancel c) = some (eofOfSent s c)
 named s file (FaultIgnore c) = none
 named s file (FaultAbandon c) = none
 named s file Close = pick (s .fixed .head .unacknowledged) none (some (ackFinished (s .marks .finished .condition) 1))

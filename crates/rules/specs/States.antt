@@ -9,7 +9,6 @@ use Rattle.types.specs.declared.FinishedParams.{FinishedParams}
 use Rattle.types.specs.declared.Head.{Head}
 use Rattle.types.specs.declared.Fixed.{Fixed}
 use Rattle.types.specs.declared.Names.{Names}
-use Rattle.types.specs.declared.Eof.{Eof}
 use Rattle.types.specs.declared.FileParams.{FileParams}
 use Rattle.types.specs.declared.Queue.{Queue}
 use Rattle.types.specs.declared.Marks.{Marks}
@@ -57,12 +56,6 @@ withMarks s m =
 
 -- ---- within a group
 
-abbrev pub progressed : FileParams → ℕ → FileParams
-progressed f p = record { progress = p; eof = f .eof }
-
-abbrev pub keeping : FileParams → Eof → FileParams
-keeping f e = record { progress = f .progress; eof = e }
-
 -- the expiry count
 abbrev pub counted : Marks → ℕ → Marks
 counted m n =
@@ -91,11 +84,9 @@ blank = record { start = 0; end = 0 }
 abbrev pub emptyQueue : Queue
 emptyQueue = record { places = replicate 64 blank; count = 0 }
 
-abbrev pub noEof : Eof
-noEof = record { condition = 0; sum = 0; size = 0 }
-
+-- the checksum of no bytes is 0 in each type
 abbrev pub noFile : FileParams
-noFile = record { progress = 0; eof = noEof }
+noFile = record { progress = 0; sum = 0 }
 
 abbrev pub notFinished : FinishedParams
 notFinished = record { condition = 0; delivery = 0; status = 0 }

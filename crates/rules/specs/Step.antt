@@ -7,9 +7,9 @@ use lib.Dec.{eqb, leb, ltb}
 use lib.ListN.{length, getD, take, drop}
 use Rattle.basis.specs.Pick.{pick, _and_, not}
 use Rattle.basis.specs.Laid.{inFront}
-use Rattle.rules_leaves.specs.Checksum.{sumOf}
+use Rattle.rules_leaves.specs.Checksum.{sumOn}
 use Rattle.rules_pdu.specs.Layout.{Said, metadata, fileData, eof, ackFinished, encode}
-use Rattle.rules.specs.States.{isIdle, toStep, withFile, withQueue, withMarks, progressed, keeping, counted, marked, settled, emptyQueue, idle, sourceName, destinationName}
+use Rattle.rules.specs.States.{isIdle, toStep, withFile, withQueue, withMarks, counted, marked, settled, emptyQueue, idle, sourceName, destinationName}
 use Rattle.rules.specs.Queues.{isMetadata, oldest, piece, served}
 use Rattle.types.specs.declared.SegmentRequest.{SegmentRequest}
 use Rattle.types.specs.declared.Eof.{Eof}
@@ -72,12 +72,13 @@ dueOf s expired = pick (eofOwed s) CancelEof (pick (ltb 0 (s .queue .count)) Rep
 
 -- ---- its PDU
 
--- an EOF of n bytes: "size = progress, checksum over progress"; S for No error
-unfoldable pub eofFor : State → List ℕ → ℕ → ℕ → Eof
-eofFor s file condition n = record { condition = condition; sum = sumOf (s .fixed .checksum) (take n file); size = n }
+-- an EOF for n bytes; R-2: "EOF takes the stored number"
+abbrev pub eofFor : State → ℕ → ℕ → Eof
+eofFor s condition n = record { condition = condition; sum = s .file .sum; size = n }
 
-abbrev pub cancelEof : State → List ℕ → ℕ → Eof
-cancelEof s file condition = eofFor s file condition (s .file .progress)
+-- of what was sent: "size = progress, checksum over progress"
+abbrev pub sentEof : State → ℕ → Eof
+sentEof s condition = eofFor s condition (s .file .progress)
 
 -- "one PDU of the oldest request"
 unfoldable pub repairOf : ℕ → SegmentRequest → Sending
@@ -91,18 +92,18 @@ nextLength s = min (s .fixed .segment) (s .fixed .size - s .file .progress)
 unfoldable pub closing : State → Sending
 closing s = pick (s .fixed .head .unacknowledged) NoPdu (AckFinished (s .marks .finished .condition))
 
-abbrev pub sendingOf : State → List ℕ → Due → Sending
-sendingOf s file CancelEof = EofPdu (cancelEof s file (s .marks .condition))
-sendingOf s file Repair = repairOf (s .fixed .segment) (oldest (s .queue))
-sendingOf s file Metadata = MetadataPdu
-sendingOf s file Data = FileData (s .file .progress) (nextLength s)
-sendingOf s file NoErrorEof = EofPdu (eofFor s file 0 (s .fixed .size))
-sendingOf s file EofAgain = EofPdu (s .file .eof)
-sendingOf s file (FaultCancel c) = EofPdu (cancelEof s file c)
-sendingOf s file (FaultIgnore c) = NoPdu
-sendingOf s file (FaultAbandon c) = NoPdu
-sendingOf s file Close = closing s
-sendingOf s file Nothing = NoPdu
+abbrev pub sendingOf : State → Due → Sending
+sendingOf s CancelEof = EofPdu (sentEof s (s .marks .condition))
+sendingOf s Repair = repairOf (s .fixed .segment) (oldest (s .queue))
+sendingOf s Metadata = MetadataPdu
+sendingOf s Data = FileData (s .file .progress) (nextLength s)
+sendingOf s NoErrorEof = EofPdu (eofFor s 0 (s .fixed .size))
+sendingOf s EofAgain = EofPdu (sentEof s (s .marks .condition))
+sendingOf s (FaultCancel c) = EofPdu (sentEof s c)
+sendingOf s (FaultIgnore c) = NoPdu
+sendingOf s (FaultAbandon c) = NoPdu
+sendingOf s Close = closing s
+sendingOf s Nothing = NoPdu
 
 -- "closure 1 (written 0 in acknowledged mode)"
 unfoldable pub closureBit : State → Bool
@@ -121,47 +122,51 @@ bytesFor s file (AckFinished c) = encode (s .fixed .head) (ackFinished c 1)
 
 -- ---- the state after it
 
--- an EOF left and is kept; acknowledged: "count 0, .. WaitingForEofAck"
-abbrev pub awaiting : State → Eof → State
-awaiting s e = toStep (withMarks (withFile s (keeping (s .file) e)) (counted (settled (s .marks)) 0)) WaitingForEofAck
+-- an EOF left; acknowledged: "count 0, .. WaitingForEofAck"
+abbrev pub awaiting : State → State
+awaiting s = toStep (withMarks s (counted (settled (s .marks)) 0)) WaitingForEofAck
 
 -- 1: "Unacknowledged: Idle .. Acknowledged: count 0, timer restarted, WaitingForEofAck"
-unfoldable pub afterCancelEof : State → Eof → State
-afterCancelEof s e = pick (s .fixed .head .unacknowledged) (idle (s .number)) (awaiting s e)
+unfoldable pub afterCancelEof : State → State
+afterCancelEof s = pick (s .fixed .head .unacknowledged) (idle (s .number)) (awaiting s)
 
 -- 3: "then SendingFileData, or SendingEof if S = 0"
 unfoldable pub afterMetadata : State → State
 afterMetadata s = pick (eqb (s .fixed .size) 0) (toStep s SendingEof) (toStep s SendingFileData)
 
--- 4: "at S, SendingEof"
-abbrev pub onward : State → ℕ → State
-onward s p = withFile s (progressed (s .file) p)
+-- R-2, "the running checksum of the first-pass bytes": the stored number goes on over the piece that leaves
+unfoldable pub sumBehind : State → List ℕ → ℕ
+sumBehind s file = sumOn (s .fixed .checksum) (s .file .sum) (s .file .progress) (take (nextLength s) (drop (s .file .progress) file))
 
-unfoldable pub afterData : State → State
-afterData s =
+-- 4: "at S, SendingEof"; k is the checksum behind the piece
+abbrev pub onward : State → ℕ → ℕ → State
+onward s p k = withFile s (record { progress = p; sum = k })
+
+unfoldable pub afterData : State → ℕ → State
+afterData s k =
     pick (eqb (s .file .progress + nextLength s) (s .fixed .size))
-    (toStep (onward s (s .file .progress + nextLength s)) SendingEof)
-    (onward s (s .file .progress + nextLength s))
+    (toStep (onward s (s .file .progress + nextLength s) k) SendingEof)
+    (onward s (s .file .progress + nextLength s) k)
 
 -- 5
-unfoldable pub afterEof : State → Eof → State
-afterEof s e =
+unfoldable pub afterEof : State → State
+afterEof s =
     pick (s .fixed .head .unacknowledged)
-    (pick (s .fixed .closure) (toStep (withFile s (keeping (s .file) e)) WaitingForFinished) (idle (s .number)))
-    (awaiting s e)
+    (pick (s .fixed .closure) (toStep s WaitingForFinished) (idle (s .number)))
+    (awaiting s)
 
 -- "Cancel marks the transaction, empties the queue and does item 1 in the same step"
 abbrev pub faultMarked : State → ℕ → State
 faultMarked s c = withMarks (withQueue s emptyQueue) (marked (s .marks) c true)
 
 abbrev pub afterOf : State → List ℕ → Due → State
-afterOf s file CancelEof = afterCancelEof s (cancelEof s file (s .marks .condition))
+afterOf s file CancelEof = afterCancelEof s
 afterOf s file Repair = withQueue s (served (s .fixed .segment) (s .queue))
 afterOf s file Metadata = afterMetadata s
-afterOf s file Data = afterData s
-afterOf s file NoErrorEof = afterEof s (eofFor s file 0 (s .fixed .size))
+afterOf s file Data = afterData s (sumBehind s file)
+afterOf s file NoErrorEof = afterEof s
 afterOf s file EofAgain = withMarks s (counted (s .marks) (s .marks .count + 1))
-afterOf s file (FaultCancel c) = afterCancelEof (faultMarked s c) (cancelEof s file c)
+afterOf s file (FaultCancel c) = afterCancelEof (faultMarked s c)
 afterOf s file (FaultIgnore c) = withMarks s (counted (s .marks) 0)
 afterOf s file (FaultAbandon c) = idle (s .number)
 afterOf s file Close = idle (s .number)
@@ -226,12 +231,12 @@ abbrev pub refusedStep : State → Refusal → Stepped
 refusedStep s r = record { answer = Refused r; length = 0; events = quiet s; state = s }
 
 abbrev pub bytesDue : State → List ℕ → Bool → List ℕ
-bytesDue s file expired = bytesFor s file (sendingOf s file (dueOf s expired))
+bytesDue s file expired = bytesFor s file (sendingOf s (dueOf s expired))
 
 -- 31 OutTooSmall: "the PDU due is longer than the out buffer"
 unfoldable pub performed : State → List ℕ → Due → ℕ → Stepped
 performed s file d room =
-    let n = length (bytesFor s file (sendingOf s file d)) in
+    let n = length (bytesFor s file (sendingOf s d)) in
     pick (ltb room n) (refusedStep s OutTooSmall) (record { answer = Accepted; length = n; events = eventsOf s d; state = afterOf s file d })
 
 -- over the lent file, the expiry flag and the room of the out buffer

@@ -117,3 +117,21 @@ Piecewise =
     × ((k n sum : ℕ) (s : List ℕ) → modularAt sum (k + 4 * n) s ≡ modularAt sum k s)
     × ((p c : ℕ) (a b : List ℕ) → crcFrom p c (a ++ b) ≡ crcFrom p (crcFrom p c a) b)
     × ((c : ℕ) (a b : List ℕ) → crc16From c (a ++ b) ≡ crc16From (crc16From c a) b)
+
+-- ---- request R-2: a finished number goes on over more bytes
+
+-- from the number of the bytes before: the final xor is taken back first
+unfoldable pub crc32On : ℕ → ℕ → List ℕ → ℕ
+crc32On polynomial sum s = bitXor (crcFrom (reversed 32 polynomial 0) (bitXor sum 0xFFFFFFFF) s) 0xFFFFFFFF
+
+-- by type; sum is the number of the n bytes before these
+unfoldable pub sumOn : ℕ → ℕ → ℕ → List ℕ → ℕ
+sumOn type sum n s =
+    pick (eqb type 0) (modularAt sum n s)
+    (pick (eqb type 2) (crc32On castagnoli sum s)
+    (pick (eqb type 3) (crc32On ethernet sum s)
+    0))
+
+-- PROMISE goes-on: from 0, the number of no bytes, it is the number of all bytes, whatever pieces they come in.
+abbrev pub GoesOn : Type 0
+GoesOn = ((type : ℕ) → sumOf type [] ≡ 0) × ((type : ℕ) (a b : List ℕ) → sumOf type (a ++ b) ≡ sumOn type (sumOf type a) (length a) b)

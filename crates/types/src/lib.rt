@@ -157,11 +157,11 @@ pub struct Eof {
     pub size: u64,
 }
 
-// First-pass bytes sent, and the last EOF, kept so that it can be sent again.
+// First-pass bytes sent: how many, and their checksum, the number that an EOF carries for them.
 #[repr(C)]
 pub struct FileParams {
     pub progress: u64,
-    pub eof: Eof,
+    pub sum: u32,
 }
 
 // Pending requests, the oldest first; the places from `count` on are zero.
