@@ -1,7 +1,6 @@
 // The handler's state: its groups changed one at a time, the steps told apart, and Idle. An enum field is never stored to: `to_step` makes the state anew.
 // After cfdp-rs 0.3.0, src/source.rs (Apache-2.0); changed, see NOTICE.
 use types::EntityId;
-use types::Eof;
 use types::FileParams;
 use types::FinishedParams;
 use types::Fixed;
@@ -14,7 +13,7 @@ use types::State;
 use types::TransactionSeqNum;
 use types::TransactionStep;
 ghost use mathlib.Core.Path.{_≡_};
-ghost use Rattle.rules.specs.States.{isIdle, toStep, withFile, withMarks, keeping, counted, idle, emptyQueue, noFixed, noNames, noEof, noFile, noMarks};
+ghost use Rattle.rules.specs.States.{isIdle, toStep, withMarks, counted, idle, emptyQueue, noFixed, noNames, noFile, noMarks};
 ghost use Rattle.rules.specs.Step.{onward, awaiting, faultMarked};
 
 pub fn is_idle(step: TransactionStep) -> bool
@@ -51,25 +50,13 @@ pub fn to_step(s: State, step: TransactionStep) -> State
     }
 }
 
-// Progress moves: only first-pass bytes do this.
-pub fn onward(s: State, progress: u64) -> State
-    ensures { λ r. ⌜ r ≡ onward s progress ⌝ }
+// Progress and the checksum move together: only first-pass bytes do this.
+pub fn onward(s: State, progress: u64, sum: u32) -> State
+    ensures { λ r. ⌜ r ≡ onward s progress sum ⌝ }
 {
     let mut t = s;
     t.file.progress = progress;
-    t
-}
-
-// The EOF that left, kept so that it can be sent again.
-pub fn keeping(s: State, e: Eof) -> State
-    ensures { λ r. ⌜ r ≡ withFile s (keeping (s .file) e) ⌝ }
-{
-    let file = FileParams {
-        progress: s.file.progress,
-        eof: e,
-    };
-    let mut t = s;
-    t.file = file;
+    t.file.sum = sum;
     t
 }
 
@@ -82,11 +69,11 @@ pub fn counted(s: State, n: u8) -> State
     t
 }
 
-// An EOF left that has to be acknowledged: it is kept and no longer owed, and the count starts.
-pub fn start_positive_ack_procedure(s: State, e: Eof) -> State
-    ensures { λ r. ⌜ r ≡ awaiting s e ⌝ }
+// An EOF left that has to be acknowledged: it is no longer owed, and the count starts.
+pub fn start_positive_ack_procedure(s: State) -> State
+    ensures { λ r. ⌜ r ≡ awaiting s ⌝ }
 {
-    let mut t = keeping(s, e);
+    let mut t = s;
     t.marks.owed = false;
     t.marks.count = 0;
     to_step(t, TransactionStep::WaitingForEofAck)
@@ -156,23 +143,12 @@ fn no_names() -> Names
     }
 }
 
-pub fn no_eof() -> Eof
-    ensures { λ r. ⌜ r ≡ noEof ⌝ }
-{
-    Eof {
-        condition: 0,
-        sum: 0,
-        size: 0,
-    }
-}
-
 pub fn no_file() -> FileParams
     ensures { λ r. ⌜ r ≡ noFile ⌝ }
 {
-    let eof = no_eof();
     FileParams {
         progress: 0,
-        eof: eof,
+        sum: 0,
     }
 }
 
