@@ -6,8 +6,8 @@ use Rattle.source_due.proofs.sending.sending_of.Tie as tie
 enum-told : tie.Need-enum-told
 enum-told c = search needs
 
-cancel-eof-requires : tie.Need-cancel-eof-requires
-cancel-eof-requires c κs = search needs
+sent-eof-requires : tie.Need-sent-eof-requires
+sent-eof-requires c κs = search needs
 
 enum-told-2 : tie.Need-enum-told-2
 enum-told-2 c = search needs
@@ -36,11 +36,14 @@ eof-for-requires c κs = search needs
 enum-told-6 : tie.Need-enum-told-6
 enum-told-6 c = search needs
 
+sent-eof-requires-2 : tie.Need-sent-eof-requires-2
+sent-eof-requires-2 c κs = search needs
+
 enum-known-d : tie.Need-enum-known-d
 enum-known-d c = search needs
 
-cancel-eof-requires-2 : tie.Need-cancel-eof-requires-2
-cancel-eof-requires-2 c κs = search needs
+sent-eof-requires-3 : tie.Need-sent-eof-requires-3
+sent-eof-requires-3 c κs = search needs
 
 enum-told-7 : tie.Need-enum-told-7
 enum-told-7 c = search needs
@@ -58,7 +61,7 @@ enum-told-10 : tie.Need-enum-told-10
 enum-told-10 c = search needs
 
 returns : tie.Need-returns
-returns c = rw (c .cancel-eof .ensures, c .before .enum-told .given .1)
+returns c = rw (c .sent-eof .ensures, c .before .enum-told .given .1)
 
 returns-2 : tie.Need-returns-2
 returns-2 c = rw (c .repair-of .ensures, c .before .oldest .ensures, c .before .before .enum-told2 .given .1)
@@ -73,10 +76,10 @@ returns-5 : tie.Need-returns-5
 returns-5 c = rw (c .eof-for .ensures, c .before .enum-told5 .given .1)
 
 returns-6 : tie.Need-returns-6
-returns-6 c = rw (c .before .enum-told6 .given .1)
+returns-6 c = rw (c .sent-eof2 .ensures, c .before .enum-told6 .given .1)
 
 returns-7 : tie.Need-returns-7
-returns-7 c = rw (c .cancel-eof2 .ensures, c .before .before .d .given .1)
+returns-7 c = rw (c .sent-eof3 .ensures, c .before .before .d .given .1)
 
 returns-8 : tie.Need-returns-8
 returns-8 c = rw (c .enum-told7 .given .1)
@@ -95,7 +98,7 @@ sending-of-spec =
     tie.close
     (tie.spec
     enum-told
-    cancel-eof-requires
+    sent-eof-requires
     enum-told-2
     oldest-requires
     repair-of-requires
@@ -105,8 +108,9 @@ sending-of-spec =
     enum-told-5
     eof-for-requires
     enum-told-6
+    sent-eof-requires-2
     enum-known-d
-    cancel-eof-requires-2
+    sent-eof-requires-3
     enum-told-7
     enum-told-8
     enum-told-9
