@@ -215,6 +215,7 @@ module _ (h : State) (c : LocalEntityConfig) (q : PutRequest) (source destinatio
         unmarked = refl;
         orderly = orderly-empty (transfer .segment) 0;
         here = (refl, refl);
+        sum = sym (goes-on .0 (entry .checksum));
       }
       )
 

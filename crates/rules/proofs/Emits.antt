@@ -85,13 +85,13 @@ module _ (w : Transfer) (s : State) (z : Sends (s .fixed) (s .names) w) where
   made-shows :
       (expired : Bool) (out : List ℕ)
       → let r = performed s (w .file) (dueOf s expired) (length out) in
-      StepShows w s (sendingOf s (w .file) (dueOf s expired)) (afterOf s (w .file) (dueOf s expired))
+      StepShows w s (sendingOf s (dueOf s expired)) (afterOf s (w .file) (dueOf s expired))
       (unless (r .answer) (went (pduIn (r .length) (inFront (bytesDue s (w .file) expired) out)))) (r .state)
   unfolding performed
   made-shows expired out = go (ltb (length out) (length bs)) refl
     where
       x : Sending
-      x = sendingOf s (w .file) (dueOf s expired)
+      x = sendingOf s (dueOf s expired)
 
       bs : List ℕ
       bs = bytesFor s (w .file) x
@@ -112,14 +112,14 @@ module _ (w : Transfer) (s : State) (z : Sends (s .fixed) (s .names) w) where
   pub step-shows :
       isIdle (s .step) ≡ false
       → (lent : List ℕ) (expired : Bool) (out : List ℕ) → LendsIn (w .file) (step lent expired out)
-      → StepShows w s (sendingOf s (w .file) (dueOf s expired)) (afterOf s (w .file) (dueOf s expired)) (shows (step lent expired out) s) (after (step lent expired out) s)
+      → StepShows w s (sendingOf s (dueOf s expired)) (afterOf s (w .file) (dueOf s expired)) (shows (step lent expired out) s) (after (step lent expired out) s)
   unfolding stepSpec stepBytes
   step-shows busy lent expired out l = go (changed s (length lent)) refl
     where
       go :
           (b : Bool) → changed s (length lent) ≡ b
           → let r = pick b (refusedStep s FileChanged) (performed s lent (dueOf s expired) (length out)) in
-          StepShows w s (sendingOf s (w .file) (dueOf s expired)) (afterOf s (w .file) (dueOf s expired))
+          StepShows w s (sendingOf s (dueOf s expired)) (afterOf s (w .file) (dueOf s expired))
           (unless (r .answer) (went (pduIn (r .length) (pick b out (inFront (bytesDue s lent expired) out))))) (r .state)
       go true e = refuses
       go false e = rw (l lent expired out refl (same-length w s (length lent) z busy e)) (made-shows expired out)
