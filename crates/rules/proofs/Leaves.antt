@@ -15,11 +15,11 @@ use Rattle.rules_pdu.specs.Layout.{eof}
 use Rattle.basis.proofs.Pick.{cases}
 use Rattle.rules.specs.States.{idle, toStep}
 use Rattle.rules.specs.Queues.{oldest, served}
-use Rattle.rules.specs.Step.{eofOwed, dueOf, nextLength, sumBehind, afterCancelEof, afterMetadata, onward, afterData, afterEof, afterOf}
+use Rattle.rules.specs.Step.{eofOwed, dueOf, nextLength, sumBehind, awaiting, afterCancelEof, afterMetadata, onward, afterData, afterEof, afterOf}
 use Rattle.rules.specs.Cancel.{mayCancel, userCancelled, cancelSpec, resetSpec, newSpec}
 use Rattle.rules.specs.Good.{At, Good}
-use Rattle.rules.specs.Says.{NoneOwed, Applies, item-1, item-2, item-3, item-4, item-5, item-6-again, item-6-fault, item-7, item-8, item-9, Declared, cancels, ignores, abandons, once-cancelled}
-use Rattle.rules.specs.Leaves.{NothingKept, Back, IdleCleared, Left, StepLeft, CancelLeaves}
+use Rattle.rules.specs.Says.{NoneOwed, named, Applies, item-1, item-2, item-3, item-4, item-5, item-6-again, item-6-fault, item-7, item-8, item-9, Declared, cancels, ignores, abandons, once-cancelled}
+use Rattle.rules.specs.Leaves.{NothingKept, Back, IdleCleared, AwaitsAck, Again, Left, StepLeft, CancelLeaves}
 use Rattle.types.specs.declared.EntityId.{EntityId}
 use Rattle.types.specs.declared.TransactionSeqNum.{TransactionSeqNum}
 use Rattle.types.specs.declared.State.{State}
@@ -118,12 +118,22 @@ module _ (s : State) (file : List ℕ) where
       not-cancelled o (inl c) = c
       not-cancelled o (inr c) = sym o ∙ c
 
+  eof-awaits : s .fixed .head .unacknowledged ≡ false → afterEof s ≡ awaiting s
+  unfolding afterEof
+  eof-awaits a = rw a refl
+
   after-eof : NoneOwed s → s .step ≡ SendingEof → Left s file NoErrorEof (afterOf s file NoErrorEof)
   unfolding afterEof
   after-eof n e = (
     λ a c. rw (a, c) (back s),
     λ a c. rw (a, c) (refl, (refl, refl, refl), refl, refl, refl),
-    λ a. rw a (record { step = refl; same = (refl, refl, refl); file = refl; count = (refl, refl); finished = (refl, refl) }, again n e, refl, refl, refl),
+    λ a.
+        subst
+        (λ (t : State).
+        AwaitsAck s t × (Good s → Again (named s file NoErrorEof) t)
+        × (t .marks .cancelled ≡ s .marks .cancelled) × (t .marks .condition ≡ s .marks .condition) × (t .queue ≡ s .queue))
+        (sym (eof-awaits a))
+        (record { step = refl; same = (refl, refl, refl); file = refl; count = (refl, refl); finished = (refl, refl) }, again n e, refl, refl, refl),
   )
 
   after-fault : (c : ℕ) (d : Due) → Declared s c d → Left s file d (afterOf s file d)

@@ -5,7 +5,7 @@ use mathlib.Core.List.{List, _++_}
 use Prim.Native.Nat.{ℕ, _+_, _≤_}
 use lib.ListN.{length, take, drop}
 use lib.Seq.{take-add, length-take-le}
-use Rattle.rules_leaves.specs.Checksum.{sumOf}
+use Rattle.rules_leaves.specs.Checksum.{sumOf, sumOn}
 use Rattle.rules_leaves.proofs.Sums.{goes-on}
 use Rattle.rules.specs.Step.{nextLength, sumBehind}
 use Rattle.types.specs.declared.State.{State}
@@ -17,7 +17,11 @@ nextPiece s file = take (nextLength s) (drop (s .file .progress) file)
 pub sum-behind : (s : State) (file before : List ℕ) → s .file .sum ≡ sumOf (s .fixed .checksum) before → s .file .progress ≡ length before
     → sumBehind s file ≡ sumOf (s .fixed .checksum) (before ++ nextPiece s file)
 unfolding sumBehind
-sum-behind s file before a b = rw (a, b) (sym (goes-on .1 (s .fixed .checksum) before (take (nextLength s) (drop (length before) file))))
+sum-behind s file before a b =
+    let type = s .fixed .checksum in
+    ap (λ (v : ℕ). sumOn type v (s .file .progress) (nextPiece s file)) a
+    ∙ ap (λ (n : ℕ). sumOn type (sumOf type before) n (nextPiece s file)) b
+    ∙ sym (goes-on .1 type before (nextPiece s file))
 
 -- the stored number is that of the file's first bytes, as many as were sent
 abbrev pub OfFile : List ℕ → State → Type 0
