@@ -70,11 +70,6 @@ under WaitingForEofAck s h c = h .0
 under WaitingForFinished s h c = h .0
 under Closing s h c = h .0
 
--- what is neither cancelled nor sent
-unowed : (o c : Bool) → o ≡ c → pick c o false ≡ false → c ≡ false
-unowed o true e f = absurd (true≢false (sym e ∙ f))
-unowed o false e f = refl
-
 -- ---- a step
 
 -- an EOF that waits for its ACK

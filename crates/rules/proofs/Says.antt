@@ -46,14 +46,6 @@ use Rattle.rules.proofs.PutExactly.{type-small}
 use Rattle.rules.proofs.Makes.{refused≢accepted}
 use Rattle.rules.proofs.Applies.{due-applies}
 
--- the file is lent whole while its EOF is due
-pub lent-whole : (s : State) (file : List ℕ) → changed s (length file) ≡ false → s .step ≡ SendingEof → take (s .fixed .size) file ≡ file
-unfolding changed
-lent-whole s file c e =
-    let n : not (eqb (length file) (s .fixed .size)) ≡ false = rw e at c in
-    let l = eqb-true (length file) (s .fixed .size) (granted _ n) in
-    take-all (s .fixed .size) file (omega arith)
-
 -- ---- what can be said is read back
 
 abbrev Can : Head → Option Said → Type 0
@@ -270,9 +262,12 @@ untied n = (λ e. absurd (false≢true e), λ p. absurd (n (p .1)))
 tied : {b : Bool} → (b ≡ true) ↔ ((b ≡ true) × Unit {0})
 tied = (λ e. (e, tt), λ p. p .0)
 
-answer-no-eof : (s : State) (file : List ℕ) (rs : List SegmentRequest) → ¬ IsEof (answerTo s file rs)
+pub answer-no-eof : (s : State) (file : List ℕ) (rs : List SegmentRequest) → ¬ IsEof (answerTo s file rs)
 answer-no-eof s file [] = λ e. e
 answer-no-eof s file (r ∷ rs) = cases (λ (m : Said). ¬ IsEof (some m)) (eqb (r .start) 0 and eqb (r .end) 0) _ _ (λ _ e. e) (λ _ e. e)
+
+pub close-no-eof : (s : State) (file : List ℕ) → ¬ IsEof (named s file Close)
+close-no-eof s file = cases (λ (x : Option Said). ¬ IsEof x) (s .fixed .head .unacknowledged) none _ (λ _ e. e) (λ _ e. e)
 
 eof-tied : (s : State) (file : List ℕ) (d : Due) → Tied s file d
 eof-tied s file CancelEof = tied
@@ -284,7 +279,7 @@ eof-tied s file EofAgain = tied
 eof-tied s file (FaultCancel c) = tied
 eof-tied s file (FaultIgnore c) = untied (λ e. e)
 eof-tied s file (FaultAbandon c) = untied (λ e. e)
-eof-tied s file Close = untied (cases (λ (x : Option Said). ¬ IsEof x) (s .fixed .head .unacknowledged) none _ (λ _ e. e) (λ _ e. e))
+eof-tied s file Close = untied (close-no-eof s file)
 eof-tied s file Nothing = untied (λ e. e)
 
 pub step-emits : StepEmits
