@@ -268,7 +268,7 @@ module _ (bs : List ℕ) (s : State) (g : Good s) (h : Held bs s) where
         (λ a.
         let d = dueOf s expired in
         let u = step-taken s lent expired (length out) a .unchanged in
-        subst (λ (v : List ℕ). Held v (afterOf s lent d)) (sym (seen-pdu bs _ _ ∙ ap (joined bs) (data-of s lent expired out g b a)))
+        subst (λ (v : List ℕ). Held v (afterOf s lent d)) (sym (seen-pdu bs (stepSpec s lent expired (length out) .length) (stepBytes s lent expired out) ∙ ap (joined bs) (data-of s lent expired out g b a)))
         (moves-held (named s lent d) (afterOf s lent d) (idle-rests s lent expired g) (λ n. lent-length s (length lent) (not-idle s n) u)
         (due-moves s lent g expired d (due-applies s expired))))
 
@@ -290,7 +290,7 @@ module _ (bs : List ℕ) (s : State) (g : Good s) (h : Held bs s) where
   call-held (deliver bytes) p = rw (seen-took bs bytes (deliverSpec s bytes .answer)) (rests-held bs s (deliverSpec s bytes .state) (deliver-rests s bytes) h)
   call-held (step lent expired out) p = step-held lent p expired out
   call-held (cancel source number) p = cancel-by s (λ e t. Held (seen bs e) t) h h source number
-  call-held reset p = idle-held _ _ refl
+  call-held reset p = idle-held bs (resetSpec s) refl
 
 single-good : (c : Single) (s : State) → ProperSingle c → Good s → Good (after c s)
 single-good (put c q a b S) s p g = good-kept .put s c q a b S p g
