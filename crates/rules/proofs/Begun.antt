@@ -31,7 +31,7 @@ use Rattle.types.specs.declared.PutRequest.{PutRequest}
 use Rattle.types.specs.declared.State.{State}
 use Rattle.types.specs.declared.TransactionStep.the-variants.{SendingMetadata}
 use Rattle.types.specs.declared.Answer.the-variants.{Accepted}
-use Rattle.rules_leaves.proofs.Sums.{sum-lt}
+use Rattle.rules_leaves.proofs.Sums.{sum-lt, goes-on}
 use Rattle.rules_pdu.proofs.Round.{size-fits}
 use Rattle.rules.proofs.Pending.{orderly-empty}
 use Rattle.rules.proofs.Outcomes.{passed, answer-by, state-by, passed-not}
@@ -215,6 +215,7 @@ module _ (h : State) (c : LocalEntityConfig) (q : PutRequest) (source destinatio
         unmarked = refl;
         orderly = orderly-empty (transfer .segment) 0;
         here = (refl, refl);
+        sum = sym (goes-on .0 (entry .checksum));
       }
       )
 

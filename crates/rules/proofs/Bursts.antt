@@ -19,7 +19,6 @@ use Rattle.rules.specs.Burst.{ifMade, stepsOf, burstAnswer, allowed, mad
 use Rattle.rules.specs.Bursts.{Speaking, LastQuiet, taken, Ends, BurstIsSteps, BurstNotChanged}
 use Rattle.types.specs.declared.State.{State}
 use Rattle.types.specs.declared.Made.{Made}
-use Rattle.types.specs.declared.Eof.{Eof}
 use Rattle.types.specs.declared.TransactionSeqNum.{TransactionSeqNum}
 use Rattle.types.specs.declared.TransactionStep.{TransactionStep}
 use Rattle.types.specs.declared.TransactionStep.the-variants.{Idle}
@@ -179,20 +178,20 @@ module _ (n : ℕ) where
   unfolding idle eofOwed
   idle-settled k = inr (refl, refl)
 
-  cancel-settled : (s : State) (e : Eof) → s .fixed .size ≡ n → Settled n (afterCancelEof s e)
+  cancel-settled : (s : State) → s .fixed .size ≡ n → Settled n (afterCancelEof s)
   unfolding afterCancelEof
-  cancel-settled s e h = cases (Settled n) (s .fixed .head .unacknowledged) _ _ (λ _. idle-settled (s .number)) (λ _. inl h)
+  cancel-settled s h = cases (Settled n) (s .fixed .head .unacknowledged) _ _ (λ _. idle-settled (s .number)) (λ _. inl h)
 
   due-settled : (s : State) (file : List ℕ) → s .fixed .size ≡ n → (d : Due) → Settled n (afterOf s file d)
   unfolding afterMetadata afterData afterEof
-  due-settled s file h CancelEof = cancel-settled s _ h
+  due-settled s file h CancelEof = cancel-settled s h
   due-settled s file h Repair = inl h
   due-settled s file h Metadata = cases (Settled n) (eqb (s .fixed .size) 0) _ _ (λ _. inl h) (λ _. inl h)
   due-settled s file h Data = cases (Settled n) (eqb (s .file .progress + nextLength s) (s .fixed .size)) _ _ (λ _. inl h) (λ _. inl h)
   due-settled s file h NoErrorEof =
       cases (Settled n) (s .fixed .head .unacknowledged) _ _ (λ _. cases (Settled n) (s .fixed .closure) _ _ (λ _. inl h) (λ _. idle-settled (s .number))) (λ _. inl h)
   due-settled s file h EofAgain = inl h
-  due-settled s file h (FaultCancel c) = cancel-settled _ _ h
+  due-settled s file h (FaultCancel c) = cancel-settled _ h
   due-settled s file h (FaultIgnore c) = inl h
   due-settled s file h (FaultAbandon c) = idle-settled (s .number)
   due-settled s file h Close = idle-settled (s .number)

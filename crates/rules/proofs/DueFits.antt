@@ -32,7 +32,7 @@ Small L (FileData o n) = n ≤ L
 Small L (EofPdu e) = Unit {0}
 Small L (AckFinished c) = Unit {0}
 
-small : (s : State) (file : List ℕ) (d : Due) → Small (s .fixed .segment) (sendingOf s file d)
+small : (s : State) (file : List ℕ) (d : Due) → Small (s .fixed .segment) (sendingOf s d)
 unfolding repairOf closing
 small s file CancelEof = tt
 small s file Repair = cases (Small (s .fixed .segment)) (isMetadata (oldest (s .queue))) MetadataPdu _ (λ _. tt) (λ _. omega arith)
@@ -83,7 +83,7 @@ module _ (s : State) (file : List ℕ) (u : Under s) where
   fits (AckFinished c) _ = let r = room in rw (length-encode h (ackFinished c 1)) (omega arith)
 
   due-under : (expired : Bool) → length (bytesDue s file expired) ≤ 4096
-  due-under expired = fits (sendingOf s file (dueOf s expired)) (small s file (dueOf s expired))
+  due-under expired = fits (sendingOf s (dueOf s expired)) (small s file (dueOf s expired))
 
 -- in Idle nothing is due
 due-idle : (n : TransactionSeqNum) (file : List ℕ) (expired : Bool) → length (bytesDue (idle n) file expired) ≤ 4096

@@ -56,14 +56,14 @@ same-bytes w s i (AckFinished c) = cc
 
 -- ---- a step
 
--- 30: what is lent has the file's length
-same-length : (w : Transfer) (s : State) (n : ℕ) → Sends (s .fixed) (s .names) w → isIdle (s .step) ≡ false → changed s n ≡ false → n ≡ length (w .file)
+-- 30: what is lent has the length that the put said
+pub lent-length : (s : State) (n : ℕ) → isIdle (s .step) ≡ false → changed s n ≡ false → n ≡ s .fixed .size
 unfolding changed
-same-length w s n z b e = go (isIdle (s .step)) (eqb n (s .fixed .size)) b refl e
+lent-length s n b e = go (isIdle (s .step)) (eqb n (s .fixed .size)) b refl e
   where
-    go : (a b : Bool) → a ≡ false → eqb n (s .fixed .size) ≡ b → (not a and not b) ≡ false → n ≡ length (w .file)
+    go : (a b : Bool) → a ≡ false → eqb n (s .fixed .size) ≡ b → (not a and not b) ≡ false → n ≡ s .fixed .size
     go true b x y e = absurd (true≢false x)
-    go false true x y e = eqb-true n (s .fixed .size) y ∙ z .size-is
+    go false true x y e = eqb-true n (s .fixed .size) y
     go false false x y e = absurd (true≢false e)
 
 -- a PDU in front of the out buffer is taken from there
@@ -85,13 +85,13 @@ module _ (w : Transfer) (s : State) (z : Sends (s .fixed) (s .names) w) where
   made-shows :
       (expired : Bool) (out : List ℕ)
       → let r = performed s (w .file) (dueOf s expired) (length out) in
-      StepShows w s (sendingOf s (w .file) (dueOf s expired)) (afterOf s (w .file) (dueOf s expired))
+      StepShows w s (sendingOf s (dueOf s expired)) (afterOf s (w .file) (dueOf s expired))
       (unless (r .answer) (went (pduIn (r .length) (inFront (bytesDue s (w .file) expired) out)))) (r .state)
   unfolding performed
   made-shows expired out = go (ltb (length out) (length bs)) refl
     where
       x : Sending
-      x = sendingOf s (w .file) (dueOf s expired)
+      x = sendingOf s (dueOf s expired)
 
       bs : List ℕ
       bs = bytesFor s (w .file) x
@@ -112,14 +112,14 @@ module _ (w : Transfer) (s : State) (z : Sends (s .fixed) (s .names) w) where
   pub step-shows :
       isIdle (s .step) ≡ false
       → (lent : List ℕ) (expired : Bool) (out : List ℕ) → LendsIn (w .file) (step lent expired out)
-      → StepShows w s (sendingOf s (w .file) (dueOf s expired)) (afterOf s (w .file) (dueOf s expired)) (shows (step lent expired out) s) (after (step lent expired out) s)
+      → StepShows w s (sendingOf s (dueOf s expired)) (afterOf s (w .file) (dueOf s expired)) (shows (step lent expired out) s) (after (step lent expired out) s)
   unfolding stepSpec stepBytes
   step-shows busy lent expired out l = go (changed s (length lent)) refl
     where
       go :
           (b : Bool) → changed s (length lent) ≡ b
           → let r = pick b (refusedStep s FileChanged) (performed s lent (dueOf s expired) (length out)) in
-          StepShows w s (sendingOf s (w .file) (dueOf s expired)) (afterOf s (w .file) (dueOf s expired))
+          StepShows w s (sendingOf s (dueOf s expired)) (afterOf s (w .file) (dueOf s expired))
           (unless (r .answer) (went (pduIn (r .length) (pick b out (inFront (bytesDue s lent expired) out))))) (r .state)
       go true e = refuses
-      go false e = rw (l lent expired out refl (same-length w s (length lent) z busy e)) (made-shows expired out)
+      go false e = rw (l lent expired out refl (lent-length s (length lent) busy e ∙ z .size-is)) (made-shows expired out)

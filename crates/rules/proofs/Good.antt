@@ -8,14 +8,14 @@ use Prim.Native.Nat.{ℕ, _+_, _-_, _^_, _≤_, _<_}
 use native.Mathlib.Omega.{arith}
 use borrow.Author.Tests.{eqb-true, eqb-false, leb-false, ltb-true}
 use lib.Dec.{eqb, leb, ltb}
-use lib.ListN.{length, take}
+use lib.ListN.{length, take, drop}
 use Rattle.basis.specs.Pick.{pick, _and_, not}
 use Rattle.basis.specs.Bytes.{Bytes}
 use Rattle.basis.proofs.Pick.{both, cases}
-use Rattle.basis.proofs.Bytes.{bytes-take}
+use Rattle.basis.proofs.Bytes.{bytes-take, bytes-drop}
 use Rattle.rules.specs.States.{toStep, withQueue, withMarks, counted, emptyQueue, idle, stepNo}
 use Rattle.rules.specs.Queues.{served}
-use Rattle.rules.specs.Step.{actionFor, faultDue, ackExpired, checkExpired, dueAt, eofOwed, dueOf, eofFor, cancelEof, nextLength, awaiting, afterCancelEof, afterMetadata, onward, afterData, afterEof, faultMarked, afterOf, changed, bytesDue, performed, stepSpec}
+use Rattle.rules.specs.Step.{actionFor, faultDue, ackExpired, checkExpired, dueAt, eofOwed, dueOf, nextLength, sumBehind, awaiting, afterCancelEof, afterMetadata, onward, afterData, afterEof, faultMarked, afterOf, changed, bytesDue, performed, stepSpec}
 use Rattle.rules.specs.Put.{putAnswer, putState, putSpec}
 use Rattle.rules.specs.Refusals.{byAnswer}
 use Rattle.rules.specs.Cancel.{canCancel, mayCancel, userCancelled, cancelSpec, resetSpec, newSpec}
@@ -34,7 +34,7 @@ use Rattle.types.specs.declared.Answer.{Answer}
 use Rattle.types.specs.declared.Answer.the-variants.{Accepted, Refused}
 use Rattle.types.specs.declared.Stepped.{Stepped}
 use Rattle.types.specs.declared.Cancelled.{Cancelled}
-use Rattle.rules_leaves.proofs.Sums.{sum-lt}
+use Rattle.rules_leaves.proofs.Sums.{sumOn-lt}
 use Rattle.rules.proofs.Singly.{burst-keeps}
 use Rattle.rules.proofs.GoodQueue.{good-empty, good-on, served-good}
 use Rattle.rules.proofs.GoodMarks.{good-noMarks, good-counted, good-settled, good-marked}
@@ -70,28 +70,21 @@ under WaitingForEofAck s h c = h .0
 under WaitingForFinished s h c = h .0
 under Closing s h c = h .0
 
--- what is neither cancelled nor sent
-unowed : (o c : Bool) → o ≡ c → pick c o false ≡ false → c ≡ false
-unowed o true e f = absurd (true≢false (sym e ∙ f))
-unowed o false e f = refl
-
 -- ---- a step
 
 -- an EOF that waits for its ACK
-good-awaiting : (s : State) (file : List ℕ) (c n : ℕ) → GoodQueue (s .file .progress) (s .queue) → s .file .progress ≤ s .fixed .size → GoodMarks (s .marks)
+good-awaiting : (s : State) → GoodQueue (s .file .progress) (s .queue) → s .file .progress ≤ s .fixed .size → s .file .sum < 2 ^ 32 → GoodMarks (s .marks)
     → ((s .fixed .head .unacknowledged ≡ true) ⊎ (s .marks .cancelled ≡ true) → s .queue ≡ emptyQueue)
-    → Bytes file → Under s → s .fixed .head .unacknowledged ≡ false → AllSent s → n ≡ s .file .progress → c ≡ s .marks .condition
-    → Good (awaiting s (eofFor s file c n))
-unfolding eofFor
-good-awaiting s file c n q p m i h u a w r e =
+    → Under s → s .fixed .head .unacknowledged ≡ false → AllSent s → Good (awaiting s)
+good-awaiting s q p k m i u a w =
     record {
       queue = q;
       progress = p;
-      sum = sum-lt (s .fixed .checksum) (take n file) (bytes-take n file h);
+      sum = k;
       count = omega arith;
       marks = good-counted _ 0 (good-settled (s .marks) m);
       silent = i;
-      here = (u, a, w, λ _. (r, e));
+      here = (u, a, w);
     }
 
 -- the count is in no fact of a step
@@ -108,17 +101,13 @@ other-step : {j : TransactionStep} (k : TransactionStep) → j ≡ k → ¬ (ste
 other-step k e n i = n (ap stepNo (sym e ∙ i))
 
 module _ (s : State) (file : List ℕ) (g : Good s) (h : Bytes file) where
-  eof-sum : (c n : ℕ) → eofFor s file c n .sum < 2 ^ 32
-  unfolding eofFor
-  eof-sum c n = sum-lt (s .fixed .checksum) (take n file) (bytes-take n file h)
-
   -- 1
-  cancel-eof : eofOwed s ≡ true → Good (afterCancelEof s (cancelEof s file (s .marks .condition)))
+  cancel-eof : eofOwed s ≡ true → Good (afterCancelEof s)
   unfolding eofOwed afterCancelEof
   cancel-eof o =
       let c = both (s .marks .cancelled) (s .marks .owed) o .0 in
       cases Good (s .fixed .head .unacknowledged) _ _ (λ _. good-idle (s .number))
-      (λ a. good-awaiting s file (s .marks .condition) (s .file .progress) (g .queue) (g .progress) (g .marks) (g .silent) h (under (s .step) s (g .here) c) a (λ e. absurd (true≢false (sym c ∙ e))) refl refl)
+      (λ a. good-awaiting s (g .queue) (g .progress) (g .sum) (g .marks) (g .silent) (under (s .step) s (g .here) c) a (λ e. absurd (true≢false (sym c ∙ e))))
 
   -- 2
   pending-at : (k : TransactionStep) → At k s → 0 < s .queue .count → At k (withQueue s (served (s .fixed .segment) (s .queue)))
@@ -158,7 +147,13 @@ module _ (s : State) (file : List ℕ) (g : Good s) (h : Bytes file) where
       (λ e. moved SendingFileData (p .0, p .1, let y = eqb-false (s .fixed .size) 0 e in omega arith))
 
   -- 4
-  data-sent : s .step ≡ SendingFileData → At SendingFileData s → Good (afterData s)
+  sum-on : sumBehind s file < 2 ^ 32
+  unfolding sumBehind
+  sum-on =
+      let piece = take (nextLength s) (drop (s .file .progress) file) in
+      sumOn-lt (s .fixed .checksum) (s .file .sum) (s .file .progress) piece (g .sum) (bytes-take (nextLength s) _ (bytes-drop (s .file .progress) file h))
+
+  data-sent : s .step ≡ SendingFileData → At SendingFileData s → Good (afterData s (sumBehind s file))
   unfolding afterData
   data-sent k p =
       let r = s .file .progress + nextLength s in
@@ -169,7 +164,7 @@ module _ (s : State) (file : List ℕ) (g : Good s) (h : Bytes file) where
       record {
         queue = q;
         progress = l;
-        sum = g .sum;
+        sum = sum-on;
         count = g .count;
         marks = g .marks;
         silent = g .silent;
@@ -180,18 +175,17 @@ module _ (s : State) (file : List ℕ) (g : Good s) (h : Bytes file) where
       record {
         queue = q;
         progress = l;
-        sum = g .sum;
+        sum = sum-on;
         count = g .count;
         marks = g .marks;
         silent = g .silent;
-        here = subst (λ (j : TransactionStep). At j (onward s r)) (sym k) (p .0, p .1, omega arith);
+        here = subst (λ (j : TransactionStep). At j (onward s r (sumBehind s file))) (sym k) (p .0, p .1, omega arith);
       })
 
   -- 5
-  eof-sent : At SendingEof s → eofOwed s ≡ false → Good (afterEof s (eofFor s file 0 (s .fixed .size)))
-  unfolding afterEof eofOwed
-  eof-sent p o =
-      let live : s .marks .cancelled ≡ false = unowed (s .marks .owed) (s .marks .cancelled) (p .1) o in
+  eof-sent : At SendingEof s → Good (afterEof s)
+  unfolding afterEof
+  eof-sent p =
       cases Good (s .fixed .head .unacknowledged) _ _
       (λ a.
       cases Good (s .fixed .closure) _ _
@@ -199,14 +193,14 @@ module _ (s : State) (file : List ℕ) (g : Good s) (h : Bytes file) where
       record {
         queue = g .queue;
         progress = g .progress;
-        sum = eof-sum 0 (s .fixed .size);
+        sum = g .sum;
         count = g .count;
         marks = g .marks;
         silent = g .silent;
         here = (p .0, λ _. c, λ _. p .2);
       })
       (λ c. good-idle (s .number)))
-      (λ a. good-awaiting s file 0 (s .fixed .size) (g .queue) (g .progress) (g .marks) (g .silent) h (p .0) a (λ _. p .2) (sym (p .2)) (sym (g .marks .noError live)))
+      (λ a. good-awaiting s (g .queue) (g .progress) (g .sum) (g .marks) (g .silent) (p .0) a (λ _. p .2))
 
   -- 6 and 7
   recounted : (n : ℕ) → n ≤ s .fixed .limit - 1 → ¬ (s .step ≡ Idle) → Good (withMarks s (counted (s .marks) n))
@@ -222,15 +216,15 @@ module _ (s : State) (file : List ℕ) (g : Good s) (h : Bytes file) where
       }
 
   fault-good : (c : ℕ) → Under s → ¬ (s .step ≡ Idle) → (s .fixed .head .unacknowledged ≡ false → (c ≡ 1) ⊎ (c ≡ 15)) → Good (afterOf s file (faultDue s c))
-  unfolding faultDue afterCancelEof eofFor
+  unfolding faultDue afterCancelEof
   fault-good c u i k =
       let P : Due → Type 0 = λ d. Good (afterOf s file d) in
       cases P (eqb (actionFor s c) 1) (FaultCancel c) _
       (λ _.
       cases Good (s .fixed .head .unacknowledged) _ _ (λ _. good-idle (s .number))
       (λ a.
-      good-awaiting (faultMarked s c) file c (s .file .progress) (good-empty (s .file .progress)) (g .progress) (good-marked (s .marks) c true (k a) (g .marks))
-      (λ _. refl) h u a (λ e. absurd (true≢false e)) refl refl))
+      good-awaiting (faultMarked s c) (good-empty (s .file .progress)) (g .progress) (g .sum) (good-marked (s .marks) c true (k a) (g .marks)) (λ _. refl) u a
+      (λ e. absurd (true≢false e))))
       (λ _. cases P (eqb (actionFor s c) 3) (FaultIgnore c) (FaultAbandon c) (λ _. recounted 0 (omega arith) i) (λ _. good-idle (s .number)))
 
   -- an expiry
@@ -259,7 +253,7 @@ module _ (s : State) (file : List ℕ) (g : Good s) (h : Bytes file) where
   at-good expired o Idle e p = g
   at-good expired o SendingMetadata e p = metadata p
   at-good expired o SendingFileData e p = data-sent e p
-  at-good expired o SendingEof e p = eof-sent p o
+  at-good expired o SendingEof e p = eof-sent p
   at-good expired o WaitingForEofAck e p = ack-good expired e p
   at-good expired o WaitingForFinished e p = check-good expired e p
   at-good expired o Closing e p = good-idle (s .number)
@@ -285,7 +279,7 @@ cancel-at s Idle c p = absurd (false≢true c)
 cancel-at s SendingMetadata c p = (p .0, refl, p .2, refl)
 cancel-at s SendingFileData c p = (p .0, refl, p .2)
 cancel-at s SendingEof c p = (p .0, refl, p .2)
-cancel-at s WaitingForEofAck c p = (p .0, p .1, λ e. absurd (true≢false e), λ e. absurd (true≢false e))
+cancel-at s WaitingForEofAck c p = (p .0, p .1, λ e. absurd (true≢false e))
 cancel-at s WaitingForFinished c p = (p .0, p .1, λ e. absurd (true≢false e))
 cancel-at s Closing c p = absurd (false≢true c)
 

@@ -9,15 +9,16 @@ use mathlib.Core.Option.{some}
 use Prim.Native.Nat.{ℕ, _+_, _-_, _≤_, _<_, min}
 use native.Mathlib.Omega.{arith}
 use lib.Dec.{eqb, ltb}
-use lib.ListN.{length}
+use lib.ListN.{length, take}
 use lib.Seq.{take-length}
 use borrow.Author.Tests.{eqb-true, eqb-false, ltb-true, ltb-false}
 use Rattle.basis.specs.Pick.{pick}
+use Rattle.rules_leaves.specs.Checksum.{sumOf}
 use Rattle.rules.specs.Refusals.{refused, accepted}
 use Rattle.rules.specs.States.{isIdle, toStep, withQueue}
 use Rattle.rules.specs.Queues.{pending, pushAll, oldest, pop, piece, served, isMetadata}
 use Rattle.rules.specs.Deliver.{isRefuse, verdictOf, byVerdict, asked, requestsIn, deliverSpec}
-use Rattle.rules.specs.Step.{eofOwed, dueAt, dueOf, eofFor, repairOf, nextLength, sendingOf, afterMetadata, afterData, onward, afterOf}
+use Rattle.rules.specs.Step.{eofOwed, dueAt, dueOf, eofFor, repairOf, nextLength, sendingOf, sumBehind, afterMetadata, afterData, onward, afterOf}
 use Rattle.rules.specs.Tiles.{tiles, answers}
 use Rattle.rules.specs.Runs.{Single, put, deliver, step, cancel, reset, Shown, turned, took, went, ended, after, unless, shows, LendsIn, requests}
 use Rattle.rules.specs.Demand.{Transfer, lastly}
@@ -39,6 +40,7 @@ use Rattle.types.specs.declared.Done.{Done}
 use Rattle.rules.proofs.Tiles.{tiles-zero, tiles-step, tiles-one, Within, within-more}
 use Rattle.rules.proofs.Pending.{pending-none, pending-first, Orderly, orderly-more, due-within, served-answers, orderly-served}
 use Rattle.rules.proofs.Outcomes.{put-by, cancel-by, delivered-by, nak-adds, Taken}
+use Rattle.rules.proofs.Summed.{OfFile, of-file-on}
 use Rattle.rules.proofs.Emits.{bytesOf, Sends, encode-pos, StepShows, step-shows}
 
 -- ---- the invariant
@@ -69,6 +71,7 @@ pub record Inv (w : Transfer) (s : State) : Type 0 where
   pub unmarked : s .marks .cancelled ≡ false
   pub orderly : Orderly (w .segment) (s .file .progress) (s .queue)
   pub here : At (length (w .file)) (s .step) (s .file .progress) (pending (s .queue))
+  pub sum : OfFile (w .file) s
 
 abbrev pub planOf : Transfer → State → List Sending
 planOf w s = plan w (s .step) (s .file .progress)
@@ -170,8 +173,9 @@ module _ (w : Transfer) (s : State) (i : Inv w s) where
       (k : TransactionStep) (f : FileParams) (q : Queue)
       → Orderly (w .segment) (f .progress) q
       → At (length (w .file)) k (f .progress) (pending q)
+      → OfFile (w .file) (moved s k f q)
       → Inv w (moved s k f q)
-  held k f q o h = record { sends = i .sends; pos = i .pos; unmarked = i .unmarked; orderly = o; here = h }
+  held k f q o h e = record { sends = i .sends; pos = i .pos; unmarked = i .unmarked; orderly = o; here = h; sum = e }
 
   repair-does : (n : ℕ) → n ≡ w .segment → 0 < s .queue .count → DoesFrom w s (repairOf n (oldest (s .queue))) (withQueue s (served n (s .queue)))
   repair-does n e c =
@@ -181,7 +185,8 @@ module _ (w : Transfer) (s : State) (i : Inv w s) where
       rw e (serves-one (repairOf L (oldest q)) (withQueue s (served L q)) (served-answers L p (i .pos) q (i .orderly) c) refl (small-repair L (oldest q))
       refl (due-within L p (i .pos) q (i .orderly) c)
       (held (s .step) (s .file) (served L q) (orderly-served L p (i .pos) q (i .orderly) c)
-      (at-rest (length (w .file)) (s .step) (s .file .progress) (oldest q) (pending (pop q)) (pending (served L q)) (rw (pending-first q (i .orderly .formed) c) at (i .here)))))
+      (at-rest (length (w .file)) (s .step) (s .file .progress) (oldest q) (pending (pop q)) (pending (served L q)) (rw (pending-first q (i .orderly .formed) c) at (i .here)))
+      (i .sum)))
 
   module _ (none-left : pending (s .queue) ≡ []) where
     -- another step and progress, nothing pending
@@ -189,8 +194,9 @@ module _ (w : Transfer) (s : State) (i : Inv w s) where
         (k : TransactionStep) (f : FileParams)
         → s .file .progress ≤ f .progress
         → At (length (w .file)) k (f .progress) (pending (s .queue))
+        → OfFile (w .file) (moved s k f (s .queue))
         → Inv w (moved s k f (s .queue))
-    gone-on k f l h = held k f (s .queue) (orderly-more (w .segment) (s .file .progress) (f .progress) (s .queue) l (i .orderly)) h
+    gone-on k f l h e = held k f (s .queue) (orderly-more (w .segment) (s .file .progress) (f .progress) (s .queue) l (i .orderly)) h e
 
     metadata-does : s .file .progress ≡ 0 → Does w (pending (s .queue)) SendingMetadata (s .file .progress) MetadataPdu (afterMetadata s)
     unfolding afterMetadata
@@ -204,19 +210,19 @@ module _ (w : Transfer) (s : State) (i : Inv w s) where
             let y = i .sends .size-is in
             let none-to-send : length (w .file) - s .file .progress ≡ 0 = omega arith in
             advances MetadataPdu (toStep s SendingEof) none-left none-left (rw (none-to-send, tiles-zero (w .segment) (s .file .progress) (i .pos))) tt refl
-            (gone-on SendingEof (s .file) (omega arith) (omega arith))
+            (gone-on SendingEof (s .file) (omega arith) (omega arith) (i .sum))
         go false e =
             let n = eqb-false (s .fixed .size) 0 e in
             let y = i .sends .size-is in
-            advances MetadataPdu (toStep s SendingFileData) none-left none-left refl tt refl (gone-on SendingFileData (s .file) (omega arith) (omega arith))
+            advances MetadataPdu (toStep s SendingFileData) none-left none-left refl tt refl (gone-on SendingFileData (s .file) (omega arith) (omega arith) (i .sum))
 
-    -- n: the bytes that go out, p: the progress behind them
+    -- n: the bytes that go out, p: the progress behind them, v: the checksum
     data-does :
-        (n p : ℕ) → n ≡ min (w .segment) (length (w .file) - s .file .progress) → p ≡ s .file .progress + n
+        (n p v : ℕ) → v ≡ sumOf (s .fixed .checksum) (take p (w .file)) → n ≡ min (w .segment) (length (w .file) - s .file .progress) → p ≡ s .file .progress + n
         → s .step ≡ SendingFileData → s .file .progress < length (w .file)
         → Does w (pending (s .queue)) SendingFileData (s .file .progress) (FileData (s .file .progress) n)
-        (pick (eqb p (s .fixed .size)) (toStep (onward s p) SendingEof) (onward s p))
-    data-does n p d g a l = go (eqb p (s .fixed .size)) refl
+        (pick (eqb p (s .fixed .size)) (toStep (onward s p v) SendingEof) (onward s p v))
+    data-does n p v m d g a l = go (eqb p (s .fixed .size)) refl
       where
         small : n ≤ w .segment
         small = omega arith
@@ -224,13 +230,13 @@ module _ (w : Transfer) (s : State) (i : Inv w s) where
         go :
             (t : Bool) → eqb p (s .fixed .size) ≡ t
             → Does w (pending (s .queue)) SendingFileData (s .file .progress) (FileData (s .file .progress) n)
-            (pick t (toStep (onward s p) SendingEof) (onward s p))
+            (pick t (toStep (onward s p v) SendingEof) (onward s p v))
         go true e =
             let b = eqb-true p (s .fixed .size) e in
             let y = i .sends .size-is in
             let last = tiles-one (w .segment) (s .file .progress) (length (w .file) - s .file .progress) (omega arith) (omega arith) in
-            advances (FileData (s .file .progress) n) (toStep (onward s p) SendingEof) none-left none-left (rw (last, d)) small (refl, g)
-            (gone-on SendingEof (onward s p .file) (omega arith) (omega arith))
+            advances (FileData (s .file .progress) n) (toStep (onward s p v) SendingEof) none-left none-left (rw (last, d)) small (refl, g)
+            (gone-on SendingEof (onward s p v .file) (omega arith) (omega arith) m)
         go false e =
             let b = eqb-false p (s .fixed .size) e in
             let y = i .sends .size-is in
@@ -238,12 +244,13 @@ module _ (w : Transfer) (s : State) (i : Inv w s) where
             let left : length (w .file) - s .file .progress - w .segment ≡ length (w .file) - p = omega arith in
             let on : s .file .progress + w .segment ≡ p = omega arith in
             let first = tiles-step (w .segment) (s .file .progress) (length (w .file) - s .file .progress) (i .pos) (omega arith) in
-            advances (FileData (s .file .progress) n) (onward s p) none-left none-left (rw (a, first, ← d, left, on)) small (refl, g)
-            (gone-on (s .step) (onward s p .file) (omega arith) (rw a (omega arith)))
+            advances (FileData (s .file .progress) n) (onward s p v) none-left none-left (rw (a, first, ← d, left, on)) small (refl, g)
+            (gone-on (s .step) (onward s p v .file) (omega arith) (rw a (omega arith)) m)
 
-    eof-is : EofPdu (eofFor s (w .file) 0 (s .fixed .size)) ≡ lastly w
-    unfolding eofFor
-    eof-is = rw (i .sends .type-is, i .sends .size-is, take-length (w .file))
+    eof-is : s .file .progress ≡ length (w .file) → EofPdu (eofFor s 0 (s .fixed .size)) ≡ lastly w
+    eof-is e =
+        let k : s .file .sum ≡ sumOf (w .type) (w .file) = i .sum ∙ rw (i .sends .type-is, e, take-length (w .file)) refl in
+        rw (k, i .sends .size-is) refl
 
     closed : (d : Sending) (t : State) → d ≡ lastly w → Does w (pending (s .queue)) SendingEof (s .file .progress) d t
     closed d t e = rw e (closes t none-left refl)
@@ -251,19 +258,20 @@ module _ (w : Transfer) (s : State) (i : Inv w s) where
     -- 3 to 5, by the step
     by-step :
         (expired : Bool) (k : TransactionStep) → s .step ≡ k → At (length (w .file)) k (s .file .progress) (pending (s .queue))
-        → Does w (pending (s .queue)) k (s .file .progress) (sendingOf s (w .file) (dueAt k s expired)) (afterOf s (w .file) (dueAt k s expired))
+        → Does w (pending (s .queue)) k (s .file .progress) (sendingOf s (dueAt k s expired)) (afterOf s (w .file) (dueAt k s expired))
     unfolding afterData
     by-step expired Idle a h = absurd h
     by-step expired SendingMetadata a h = metadata-does (h .1)
     by-step expired SendingFileData a h =
-        data-does (nextLength s) (s .file .progress + nextLength s) (rw (i .sends .segment-is, i .sends .size-is)) refl a h
-    by-step expired SendingEof a h = closed (EofPdu (eofFor s (w .file) 0 (s .fixed .size))) (afterOf s (w .file) (dueAt SendingEof s expired)) eof-is
+        data-does (nextLength s) (s .file .progress + nextLength s) (sumBehind s (w .file)) (of-file-on (w .file) s (i .sum) (omega arith))
+        (rw (i .sends .segment-is, i .sends .size-is)) refl a h
+    by-step expired SendingEof a h = closed (EofPdu (eofFor s 0 (s .fixed .size))) (afterOf s (w .file) (dueAt SendingEof s expired)) (eof-is h)
     by-step expired WaitingForEofAck a h = absurd h
     by-step expired WaitingForFinished a h = absurd h
     by-step expired Closing a h = absurd h
 
   -- a cancel's EOF is not due; repairs come first
-  pub due-does : (expired : Bool) → DoesFrom w s (sendingOf s (w .file) (dueOf s expired)) (afterOf s (w .file) (dueOf s expired))
+  pub due-does : (expired : Bool) → DoesFrom w s (sendingOf s (dueOf s expired)) (afterOf s (w .file) (dueOf s expired))
   unfolding dueOf eofOwed
   due-does expired = go (s .marks .cancelled) (ltb 0 (s .queue .count)) (i .unmarked) refl
     where
@@ -272,7 +280,7 @@ module _ (w : Transfer) (s : State) (i : Inv w s) where
 
       go :
           (c t : Bool) → c ≡ false → ltb 0 (s .queue .count) ≡ t
-          → DoesFrom w s (sendingOf s (w .file) (due c t)) (afterOf s (w .file) (due c t))
+          → DoesFrom w s (sendingOf s (due c t)) (afterOf s (w .file) (due c t))
       go true t a e = absurd (true≢false a)
       go false true a e = repair-does (s .fixed .segment) (i .sends .segment-is) (ltb-true 0 (s .queue .count) e)
       go false false a e =
@@ -313,7 +321,7 @@ step-moves : (w : Transfer) (s : State) → Inv w s → (lent : List ℕ) (expir
 step-moves w s i lent expired out l = go _ _ (step-shows w s (i .sends) (not-idle w s i) lent expired out l)
   where
     x : Sending
-    x = sendingOf s (w .file) (dueOf s expired)
+    x = sendingOf s (dueOf s expired)
 
     t : State
     t = afterOf s (w .file) (dueOf s expired)
@@ -349,7 +357,7 @@ module _ (w : Transfer) (s : State) (i : Inv w s) where
   nak-takes rs m h l t =
       let a = nak-adds (w .segment) (s .file .progress) s (i .pos) (i .orderly) (omega arith) rs m t in
       adds (withQueue s (pushAll (s .queue) rs)) (a .0) refl (within-more (w .segment) (s .file .progress) (length (w .file)) (answers (w .segment) rs) l (a .1)) refl
-      (held w s i (s .step) (s .file) (pushAll (s .queue) rs) (a .2) (h (pending (pushAll (s .queue) rs))))
+      (held w s i (s .step) (s .file) (pushAll (s .queue) rs) (a .2) (h (pending (pushAll (s .queue) rs))) (i .sum))
 
   no-effect : Takes w s [] (accepted s)
   unfolding answers

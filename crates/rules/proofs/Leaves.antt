@@ -2,21 +2,24 @@
 -- Assumes nothing.
 use mathlib.Core.Path.{_≡_, refl, sym, subst, _∙_}
 use mathlib.Core.Bool.{Bool, true, false, false≢true}
+use mathlib.Core.Logic.{inl, inr}
 use mathlib.Core.List.{List}
+use mathlib.Core.Option.{some}
 use Prim.Native.Nat.{ℕ, _+_, _-_, _<_}
 use native.Mathlib.Omega.{arith}
 use borrow.Author.Tests.{eqb-true, eqb-false, le-leb, lt-leb}
 use lib.Dec.{eqb}
 use lib.ListN.{length}
 use Rattle.basis.specs.Pick.{pick}
+use Rattle.rules_pdu.specs.Layout.{eof}
 use Rattle.basis.proofs.Pick.{cases}
 use Rattle.rules.specs.States.{idle, toStep}
 use Rattle.rules.specs.Queues.{oldest, served}
-use Rattle.rules.specs.Step.{eofOwed, dueOf, eofFor, nextLength, afterCancelEof, afterMetadata, onward, afterData, afterEof, afterOf, changed}
+use Rattle.rules.specs.Step.{eofOwed, dueOf, nextLength, sumBehind, awaiting, afterCancelEof, afterMetadata, onward, afterData, afterEof, afterOf}
 use Rattle.rules.specs.Cancel.{mayCancel, userCancelled, cancelSpec, resetSpec, newSpec}
-use Rattle.rules.specs.Good.{At}
-use Rattle.rules.specs.Says.{Applies, item-1, item-2, item-3, item-4, item-5, item-6-again, item-6-fault, item-7, item-8, item-9, Declared, cancels, ignores, abandons, once-cancelled}
-use Rattle.rules.specs.Leaves.{NothingKept, Back, IdleCleared, Left, StepLeft, CancelLeaves}
+use Rattle.rules.specs.Good.{At, Good}
+use Rattle.rules.specs.Says.{NoneOwed, named, Applies, item-1, item-2, item-3, item-4, item-5, item-6-again, item-6-fault, item-7, item-8, item-9, Declared, cancels, ignores, abandons, once-cancelled}
+use Rattle.rules.specs.Leaves.{NothingKept, Back, IdleCleared, AwaitsAck, Again, Left, StepLeft, CancelLeaves}
 use Rattle.types.specs.declared.EntityId.{EntityId}
 use Rattle.types.specs.declared.TransactionSeqNum.{TransactionSeqNum}
 use Rattle.types.specs.declared.State.{State}
@@ -28,7 +31,8 @@ use Rattle.types.specs.declared.Cancelled.{Cancelled}
 use Rattle.rules.proofs.Pending.{Formed, pending-first, pending-changed}
 use Rattle.rules.proofs.Good.{good-kept}
 use Rattle.rules.proofs.Applies.{due-applies}
-use Rattle.rules.proofs.Says.{lent-whole, step-taken, due-says}
+use Rattle.rules.proofs.Summed.{sum-behind}
+use Rattle.rules.proofs.Says.{step-taken, due-says}
 
 -- ---- Idle
 
@@ -42,7 +46,7 @@ cleared-idle n =
       fixed = (refl, refl, refl, refl, refl, refl, refl, refl);
       source = (refl, refl);
       destination = (refl, refl);
-      file = (refl, refl, refl, refl);
+      file = (refl, refl);
       queue = (refl, refl);
       marks = (refl, refl, refl, refl, refl);
       finished = (refl, refl, refl);
@@ -65,10 +69,10 @@ idle-cleared =
 
 module _ (s : State) (file : List ℕ) where
   after-cancel : Left s file CancelEof (afterOf s file CancelEof)
-  unfolding afterCancelEof eofFor
+  unfolding afterCancelEof
   after-cancel = (
     λ a. rw a (back s),
-    λ a. rw a (record { step = refl; same = (refl, refl, refl); progress = refl; kept = refl; count = (refl, refl); finished = (refl, refl) }, refl, refl, refl),
+    λ a. rw a (record { step = refl; same = (refl, refl, refl); file = refl; count = (refl, refl); finished = (refl, refl) }, refl, refl, refl, refl),
   )
 
   after-repair : 0 < s .queue .count → Left s file Repair (afterOf s file Repair)
@@ -100,46 +104,64 @@ module _ (s : State) (file : List ℕ) where
   after-data = go (eqb (s .file .progress + nextLength s) (s .fixed .size)) refl
     where
       go : (b : Bool) → eqb (s .file .progress + nextLength s) (s .fixed .size) ≡ b
-          → Left s file Data (pick b (toStep (onward s (s .file .progress + nextLength s)) SendingEof) (onward s (s .file .progress + nextLength s)))
-      go true e = (refl, λ z. refl, λ n. absurd (n (eqb-true _ _ e)), (refl, refl, refl), refl, refl, refl)
-      go false e = (refl, λ z. absurd (eqb-false _ _ e z), λ n. refl, (refl, refl, refl), refl, refl, refl)
+          → let p = s .file .progress + nextLength s in let k = sumBehind s file in Left s file Data (pick b (toStep (onward s p k) SendingEof) (onward s p k))
+      go true e = (refl, λ z. refl, λ n. absurd (n (eqb-true _ _ e)), sum-behind s file, (refl, refl, refl), refl, refl)
+      go false e = (refl, λ z. absurd (eqb-false _ _ e z), λ n. refl, sum-behind s file, (refl, refl, refl), refl, refl)
 
-  after-eof : changed s (length file) ≡ false → s .step ≡ SendingEof → Left s file NoErrorEof (afterOf s file NoErrorEof)
-  unfolding afterEof eofFor
-  after-eof u e = (
+  -- No error: the condition is 0, and all was sent
+  again : NoneOwed s → s .step ≡ SendingEof → Good s → some (eof 0 (s .file .sum) (s .fixed .size)) ≡ some (eof (s .marks .condition) (s .file .sum) (s .file .progress))
+  again n e g =
+      let p : At SendingEof s = subst (λ (k : TransactionStep). At k s) e (g .here) in
+      rw (g .marks .noError (not-cancelled (p .1) n), p .2) refl
+    where
+      not-cancelled : s .marks .owed ≡ s .marks .cancelled → NoneOwed s → s .marks .cancelled ≡ false
+      not-cancelled o (inl c) = c
+      not-cancelled o (inr c) = sym o ∙ c
+
+  eof-awaits : s .fixed .head .unacknowledged ≡ false → afterEof s ≡ awaiting s
+  unfolding afterEof
+  eof-awaits a = rw a refl
+
+  after-eof : NoneOwed s → s .step ≡ SendingEof → Left s file NoErrorEof (afterOf s file NoErrorEof)
+  unfolding afterEof
+  after-eof n e = (
     λ a c. rw (a, c) (back s),
     λ a c. rw (a, c) (refl, (refl, refl, refl), refl, refl, refl),
-    λ a left k.
-        rw a
-        (record { step = refl; same = (refl, refl, refl); progress = refl; kept = rw (lent-whole s file u e) (cc k); count = (refl, refl); finished = (refl, refl) }, refl, refl, refl),
+    λ a.
+        subst
+        (λ (t : State).
+        AwaitsAck s t × (Good s → Again (named s file NoErrorEof) t)
+        × (t .marks .cancelled ≡ s .marks .cancelled) × (t .marks .condition ≡ s .marks .condition) × (t .queue ≡ s .queue))
+        (sym (eof-awaits a))
+        (record { step = refl; same = (refl, refl, refl); file = refl; count = (refl, refl); finished = (refl, refl) }, again n e, refl, refl, refl),
   )
 
   after-fault : (c : ℕ) (d : Due) → Declared s c d → Left s file d (afterOf s file d)
-  unfolding afterCancelEof eofFor
+  unfolding afterCancelEof
   after-fault c _ (cancels e a) = (
     λ u. rw u (back s),
-    λ u. rw u (record { step = refl; same = (refl, refl, refl); progress = refl; kept = refl; count = (refl, refl); finished = (refl, refl) }, refl, refl, (refl, refl)),
+    λ u. rw u (record { step = refl; same = (refl, refl, refl); file = refl; count = (refl, refl); finished = (refl, refl) }, refl, refl, refl, (refl, refl)),
   )
   after-fault c _ (ignores e a) = (refl, refl, (refl, refl, refl, refl), refl, (refl, refl, refl), refl, refl)
   after-fault c _ (abandons e a b) = back s
   after-fault c _ (once-cancelled e) = back s
 
-  after-due : (expired : Bool) (d : Due) → changed s (length file) ≡ false → Applies s expired d → Left s file d (afterOf s file d)
-  after-due expired _ u (item-1 c o) = after-cancel
-  after-due expired _ u (item-2 n p) = after-repair p
-  after-due expired _ u (item-3 f e) = after-metadata
-  after-due expired _ u (item-4 f e) = after-data
-  after-due expired _ u (item-5 f e) = after-eof u e
-  after-due expired _ u (item-6-again f e x l) = (refl, refl, (refl, refl, refl, refl), refl, (refl, refl, refl), refl, refl)
-  after-due expired d u (item-6-fault f e x l k) = after-fault 1 d k
-  after-due expired d u (item-7 f e a x k) = after-fault 10 d k
-  after-due expired _ u (item-8 f e) = back s
-  after-due expired _ u (item-9 f w) = refl
+  after-due : (expired : Bool) (d : Due) → Applies s expired d → Left s file d (afterOf s file d)
+  after-due expired _ (item-1 c o) = after-cancel
+  after-due expired _ (item-2 n p) = after-repair p
+  after-due expired _ (item-3 f e) = after-metadata
+  after-due expired _ (item-4 f e) = after-data
+  after-due expired _ (item-5 f e) = after-eof (f .0) e
+  after-due expired _ (item-6-again f e x l) = (refl, refl, (refl, refl, refl, refl), refl, (refl, refl, refl), refl, refl)
+  after-due expired d (item-6-fault f e x l k) = after-fault 1 d k
+  after-due expired d (item-7 f e a x k) = after-fault 10 d k
+  after-due expired _ (item-8 f e) = back s
+  after-due expired _ (item-9 f w) = refl
 
 pub step-left : StepLeft
 step-left s file expired room a =
     let t = step-taken s file expired room a in
-    rw (t .state-is) (after-due s file expired (dueOf s expired) (t .unchanged) (due-applies s expired))
+    rw (t .state-is) (after-due s file expired (dueOf s expired) (due-applies s expired))
 
 -- ---- cancel
 

@@ -88,7 +88,7 @@ unchanged w s i = rw (eq-eqb (length (w .file)) (s .fixed .size) (sym (i .sends 
 step-live : (w : Transfer) (s : State) → Inv w s → (n : ℕ) → Wide w n → (expired : Bool) (m : ℕ) → n ≤ m → stepSpec s (w .file) expired m .answer ≡ Accepted
 unfolding stepSpec performed
 step-live w s i n z expired m l =
-    let d = sendingOf s (w .file) (dueOf s expired) in
+    let d = sendingOf s (dueOf s expired) in
     let e : length (bytesFor s (w .file) d) ≤ n = rw (same-bytes w s (i .sends) d) (does-fit n z d _ (due-does w s i expired)) in
     let b : ltb m (length (bytesFor s (w .file) d)) ≡ false = le-ltb m (length (bytesFor s (w .file) d)) (omega arith) in
     rw (unchanged w s i, b)
@@ -155,7 +155,7 @@ plain w n z (c ∷ cs) s i q f e =
     out = f .0 .1
 
     x : Sending
-    x = sendingOf s (w .file) (dueOf s expired)
+    x = sendingOf s (dueOf s expired)
 
     u : State
     u = afterOf s (w .file) (dueOf s expired)

@@ -38,6 +38,7 @@ put-made s c q source destination S l k =
     record {
       step = refl;
       progress = refl;
+      sum = refl;
       queue = refl;
       marks = (refl, refl, refl, refl);
       mode = chosen-is (q .unacknowledged) (entryOf c (q .destination .1) .unacknowledged);

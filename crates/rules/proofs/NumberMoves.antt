@@ -21,7 +21,6 @@ use Rattle.types.specs.declared.Meaning.{Meaning}
 use Rattle.types.specs.declared.Meaning.the-variants.{Finished, AckOfEof, Nak, KeepAlive}
 use Rattle.types.specs.declared.Verdict.{Verdict}
 use Rattle.types.specs.declared.Verdict.the-variants.{Enqueue, Move, Refuse, NoEffect}
-use Rattle.types.specs.declared.Eof.{Eof}
 use Rattle.types.specs.declared.TransactionSeqNum.{TransactionSeqNum}
 use Rattle.types.specs.declared.State.{State}
 use Rattle.types.specs.declared.Due.{Due}
@@ -73,20 +72,20 @@ module _ (s : State) where
 
   -- ---- step
 
-  cancel-eof-same : (t : State) (e : Eof) → Same t → Same (afterCancelEof t e)
+  cancel-eof-same : (t : State) → Same t → Same (afterCancelEof t)
   unfolding afterCancelEof idle
-  cancel-eof-same t e h = cases Same (t .fixed .head .unacknowledged) _ _ (λ _. h) (λ _. h)
+  cancel-eof-same t h = cases Same (t .fixed .head .unacknowledged) _ _ (λ _. h) (λ _. h)
 
   due-same : (file : List ℕ) (d : Due) → Same (afterOf s file d)
   unfolding afterMetadata afterData afterEof
-  due-same file CancelEof = cancel-eof-same s _ refl
+  due-same file CancelEof = cancel-eof-same s refl
   due-same file Repair = refl
   due-same file Metadata = cases Same (eqb (s .fixed .size) 0) _ _ (λ _. refl) (λ _. refl)
   due-same file Data = cases Same (eqb (s .file .progress + nextLength s) (s .fixed .size)) _ _ (λ _. refl) (λ _. refl)
   due-same file NoErrorEof =
       cases Same (s .fixed .head .unacknowledged) _ _ (λ _. cases Same (s .fixed .closure) _ _ (λ _. refl) (λ _. idle-same)) (λ _. refl)
   due-same file EofAgain = refl
-  due-same file (FaultCancel c) = cancel-eof-same _ _ refl
+  due-same file (FaultCancel c) = cancel-eof-same _ refl
   due-same file (FaultIgnore c) = refl
   due-same file (FaultAbandon c) = idle-same
   due-same file Close = idle-same

@@ -245,7 +245,7 @@ module _ (w : Transfer) (pos : 0 < w .segment) (s : State) (l : Loose w s) where
       (rests n (ap (λ (x : State). stepSpec x lent expired (length out) .state) e ∙ idle-step n lent expired (length out)))
   step-keeps (works b) lent expired out k = go _ _ (step-shows w s (b .sends) (b .awake) lent expired out k)
     where
-      go : (e : Shown) (u : State) → StepShows w s (sendingOf s (w .file) (dueOf s expired)) (afterOf s (w .file) (dueOf s expired)) e u → Keeps w e u
+      go : (e : Shown) (u : State) → StepShows w s (sendingOf s (dueOf s expired)) (afterOf s (w .file) (dueOf s expired)) e u → Keeps w e u
       go e u StepShows.refuses = keeps turned s l
       go e u (StepShows.passes d f) = keeps (went d) _ (due-keeps w pos s b (w .file) (dueOf s expired) (due-pends s expired))
 
@@ -321,7 +321,7 @@ module _ (w : Transfer) (pos : 0 < w .segment) (s : State) (v : Serving w s) whe
   step-goes lent expired out l = go (ltb 0 (s .queue .count)) refl
     where
       view :
-          StepShows w s (sendingOf s (w .file) (dueOf s expired)) (afterOf s (w .file) (dueOf s expired))
+          StepShows w s (sendingOf s (dueOf s expired)) (afterOf s (w .file) (dueOf s expired))
           (shows (step lent expired out) s) (after (step lent expired out) s)
       view = step-shows w s (v .busy .sends) (v .busy .awake) lent expired out l
 

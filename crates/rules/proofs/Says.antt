@@ -46,14 +46,6 @@ use Rattle.rules.proofs.PutExactly.{type-small}
 use Rattle.rules.proofs.Makes.{refused≢accepted}
 use Rattle.rules.proofs.Applies.{due-applies}
 
--- the file is lent whole while its EOF is due
-pub lent-whole : (s : State) (file : List ℕ) → changed s (length file) ≡ false → s .step ≡ SendingEof → take (s .fixed .size) file ≡ file
-unfolding changed
-lent-whole s file c e =
-    let n : not (eqb (length file) (s .fixed .size)) ≡ false = rw e at c in
-    let l = eqb-true (length file) (s .fixed .size) (granted _ n) in
-    take-all (s .fixed .size) file (omega arith)
-
 -- ---- what can be said is read back
 
 abbrev Can : Head → Option Said → Type 0
@@ -95,12 +87,9 @@ module _ (s : State) (file : List ℕ) (g : Good s) (y : Bytes file) where
   unfolding h
   place n u l = let z = size-fits (s .fixed .size) (u .fixed .size) in rw (u .fixed .large) (omega arith)
 
-  sum-small : (n : ℕ) → sumOf (s .fixed .checksum) (take n file) < 2 ^ 32
-  sum-small n = sum-lt (s .fixed .checksum) (take n file) (bytes-take n file y)
-
-  can-eof : (c : ℕ) → Ours c → Under s → Can h (some (eofOfSent s file c))
+  can-eof : (c : ℕ) → Ours c → Under s → Can h (some (eofOfSent s c))
   unfolding h
-  can-eof c o u = (u .fixed .head, (unreserved c o .0, unreserved c o .1, sum-small (s .file .progress), place (s .file .progress) u (g .progress)))
+  can-eof c o u = (u .fixed .head, (unreserved c o .0, unreserved c o .1, g .sum, place (s .file .progress) u (g .progress)))
 
   can-metadata : Under s → Can h (some (itsMetadata s))
   unfolding h
@@ -146,27 +135,12 @@ module _ (s : State) (file : List ℕ) (g : Good s) (y : Bytes file) where
       cases (λ (m : Said). Can h (some m)) (eqb (r .start) 0 and eqb (r .end) 0) _ _ (λ _. can-metadata u)
       (λ _. can-bytes (r .start) (r .end - r .start) u (owes-within r (o .0) (o .1)))
 
-  -- 6: the kept EOF
-  not-owed : NoneOwed s → s .marks .owed ≡ false
-  not-owed (inr e) = e
-  not-owed (inl e) = go (s .marks .owed) refl
-    where
-      go : (b : Bool) → s .marks .owed ≡ b → b ≡ false
-      go true o = absurd (true≢false (sym (g .marks .owed o) ∙ e))
-      go false o = refl
-
   condition-ours : Ours (s .marks .condition)
   condition-ours = go (s .marks .cancelled) refl
     where
       go : (b : Bool) → s .marks .cancelled ≡ b → Ours (s .marks .condition)
       go true e = ⊎-elim (λ z. inr (inl z)) (λ z. inr (inr (inr z))) (g .marks .condition e)
       go false e = inl (g .marks .noError e)
-
-  can-again : NoneOwed s → At WaitingForEofAck s → Can h (named s file EofAgain)
-  unfolding h
-  can-again n p =
-      let k = p .3 (not-owed n) in
-      (p .0 .fixed .head, (rw (k .1) (unreserved _ condition-ours .0), rw (k .1) (unreserved _ condition-ours .1), g .sum, place (s .file .eof .size) (p .0) (rw (k .0) (g .progress))))
 
   can-close : At Closing s → Can h (named s file Close)
   unfolding h
@@ -180,8 +154,8 @@ module _ (s : State) (file : List ℕ) (g : Good s) (y : Bytes file) where
   can-say expired _ (item-2 n p) = can-answer (pending (s .queue)) (under-pending (s .step) (g .here) p) (g .queue .owing)
   can-say expired _ (item-3 f e) = can-metadata (at SendingMetadata e .0)
   can-say expired _ (item-4 f e) = can-bytes (s .file .progress) (s .fixed .size - s .file .progress) (at SendingFileData e .0) (g .progress)
-  can-say expired _ (item-5 f e) = let u = at SendingEof e .0 in (u .fixed .head, (unreserved 0 (inl refl) .0, unreserved 0 (inl refl) .1, sum-lt (s .fixed .checksum) file y, place (s .fixed .size) u (omega arith)))
-  can-say expired _ (item-6-again f e x l) = can-again (f .0) (at WaitingForEofAck e)
+  can-say expired _ (item-5 f e) = let u = at SendingEof e .0 in (u .fixed .head, (unreserved 0 (inl refl) .0, unreserved 0 (inl refl) .1, g .sum, place (s .fixed .size) u (omega arith)))
+  can-say expired _ (item-6-again f e x l) = can-eof (s .marks .condition) condition-ours (at WaitingForEofAck e .0)
   can-say expired d (item-6-fault f e x l k) = can-fault 1 (inr (inl refl)) (at WaitingForEofAck e .0) d k
   can-say expired d (item-7 f e u x k) = can-fault 10 (inr (inr (inl refl))) (at WaitingForFinished e .0) d k
   can-say expired _ (item-8 f e) = can-close (at Closing e)
@@ -199,8 +173,7 @@ module _ (s : State) (file : List ℕ) where
       go true = refl
       go false = refl
 
-  fault-written : (c : ℕ) (d : Due) → Declared s c d → bytesFor s file (sendingOf s file d) ≡ bytesOf (s .fixed .head) (named s file d)
-  unfolding eofFor
+  fault-written : (c : ℕ) (d : Due) → Declared s c d → bytesFor s file (sendingOf s d) ≡ bytesOf (s .fixed .head) (named s file d)
   fault-written c _ (cancels e a) = refl
   fault-written c _ (ignores e a) = refl
   fault-written c _ (abandons e a b) = refl
@@ -215,20 +188,20 @@ module _ (s : State) (file : List ℕ) where
       go true = refl
       go false = refl
 
-  named-written : (expired : Bool) (d : Due) → (d ≡ Repair → GoodQueue (s .file .progress) (s .queue)) → changed s (length file) ≡ false → Applies s expired d → bytesFor s file (sendingOf s file d) ≡ bytesOf (s .fixed .head) (named s file d)
-  unfolding eofFor closureBit
-  named-written expired _ g u (item-1 c o) = refl
-  named-written expired _ g u (item-2 n p) =
+  named-written : (expired : Bool) (d : Due) → (d ≡ Repair → GoodQueue (s .file .progress) (s .queue)) → Applies s expired d → bytesFor s file (sendingOf s d) ≡ bytesOf (s .fixed .head) (named s file d)
+  unfolding closureBit
+  named-written expired _ g (item-1 c o) = refl
+  named-written expired _ g (item-2 n p) =
       let f : Formed (s .queue) = record { size = g refl .places; used = g refl .used } in
       rw (pending-first (s .queue) f p) (answer-written (oldest (s .queue)) (pending (pop (s .queue))))
-  named-written expired _ g u (item-3 f e) = refl
-  named-written expired _ g u (item-4 f e) = refl
-  named-written expired _ g u (item-5 f e) = rw (lent-whole s file u e) refl
-  named-written expired _ g u (item-6-again f e x l) = refl
-  named-written expired d g u (item-6-fault f e x l k) = fault-written 1 d k
-  named-written expired d g u (item-7 f e a x k) = fault-written 10 d k
-  named-written expired _ g u (item-8 f e) = close-written
-  named-written expired _ g u (item-9 f w) = refl
+  named-written expired _ g (item-3 f e) = refl
+  named-written expired _ g (item-4 f e) = refl
+  named-written expired _ g (item-5 f e) = refl
+  named-written expired _ g (item-6-again f e x l) = refl
+  named-written expired d g (item-6-fault f e x l k) = fault-written 1 d k
+  named-written expired d g (item-7 f e a x k) = fault-written 10 d k
+  named-written expired _ g (item-8 f e) = close-written
+  named-written expired _ g (item-9 f w) = refl
 
 -- ---- an accepted step
 
@@ -267,16 +240,14 @@ unfolding h
 due-says =
     record {
       written = λ s file expired out g a.
-          let t = step-taken s file expired (length out) a in
-          pdu-is s file expired out a ∙ named-written s file expired (dueOf s expired) g (t .unchanged) (due-applies s expired);
+          pdu-is s file expired out a ∙ named-written s file expired (dueOf s expired) g (due-applies s expired);
       says = λ s file expired out g y a.
-          let t = step-taken s file expired (length out) a in
           let d = due-applies s expired in
-          rw (pdu-is s file expired out a, named-written s file expired (dueOf s expired) (λ _. g .queue) (t .unchanged) d)
+          rw (pdu-is s file expired out a, named-written s file expired (dueOf s expired) (λ _. g .queue) d)
           (decode-written (s .fixed .head) (named s file (dueOf s expired)) (can-say s file g y expired (dueOf s expired) d));
       silent = λ s file expired room g y a e.
           let t = step-taken s file expired room a in
-          t .length-is ∙ ap length (named-written s file expired (dueOf s expired) (λ _. g .queue) (t .unchanged) (due-applies s expired)) ∙ rw e refl;
+          t .length-is ∙ ap length (named-written s file expired (dueOf s expired) (λ _. g .queue) (due-applies s expired)) ∙ rw e refl;
     }
 
 -- ---- the EOF-sent event
@@ -291,9 +262,12 @@ untied n = (λ e. absurd (false≢true e), λ p. absurd (n (p .1)))
 tied : {b : Bool} → (b ≡ true) ↔ ((b ≡ true) × Unit {0})
 tied = (λ e. (e, tt), λ p. p .0)
 
-answer-no-eof : (s : State) (file : List ℕ) (rs : List SegmentRequest) → ¬ IsEof (answerTo s file rs)
+pub answer-no-eof : (s : State) (file : List ℕ) (rs : List SegmentRequest) → ¬ IsEof (answerTo s file rs)
 answer-no-eof s file [] = λ e. e
 answer-no-eof s file (r ∷ rs) = cases (λ (m : Said). ¬ IsEof (some m)) (eqb (r .start) 0 and eqb (r .end) 0) _ _ (λ _ e. e) (λ _ e. e)
+
+pub close-no-eof : (s : State) (file : List ℕ) → ¬ IsEof (named s file Close)
+close-no-eof s file = cases (λ (x : Option Said). ¬ IsEof x) (s .fixed .head .unacknowledged) none _ (λ _ e. e) (λ _ e. e)
 
 eof-tied : (s : State) (file : List ℕ) (d : Due) → Tied s file d
 eof-tied s file CancelEof = tied
@@ -305,7 +279,7 @@ eof-tied s file EofAgain = tied
 eof-tied s file (FaultCancel c) = tied
 eof-tied s file (FaultIgnore c) = untied (λ e. e)
 eof-tied s file (FaultAbandon c) = untied (λ e. e)
-eof-tied s file Close = untied (cases (λ (x : Option Said). ¬ IsEof x) (s .fixed .head .unacknowledged) none _ (λ _ e. e) (λ _ e. e))
+eof-tied s file Close = untied (close-no-eof s file)
 eof-tied s file Nothing = untied (λ e. e)
 
 pub step-emits : StepEmits

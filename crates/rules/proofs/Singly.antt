@@ -11,11 +11,13 @@ use lib.ListN.{length, take, drop, length-drop, length-append, length-map, repli
 use lib.Seq.{take-at, drop-at, length-take-le}
 use borrow.Author.Tests.{ltb-false}
 use Rattle.basis.specs.Pick.{pick}
+use Rattle.basis.specs.Bytes.{Bytes}
 use Rattle.basis.specs.Laid.{inFront}
 use Rattle.rules.specs.Refusals.{answerNo}
 use Rattle.rules.specs.Step.{dueOf, eventsOf, afterOf, bytesDue, changed, refusedStep, performed, stepSpec, stepBytes}
 use Rattle.rules.specs.Burst.{ifMade, stepsOf, laidOf, allowed, madeOf, noneMade, inPlaces, lastOf, burstSpec, burstBytes}
 use Rattle.rules.specs.Runs.{All, Single, Call, one, burst, Shown, went, after, pduIn, shows, madeIn, wentEach, afterCall, showsCall, trace, behind, LendsIn, LendsCall, Lends}
+use Rattle.rules.specs.Good.{ProperSingle, ProperCall, Proper}
 use Rattle.rules.specs.Bursts.{OneByOne, asSteps, BurstCounts}
 use Rattle.types.specs.declared.State.{State}
 use Rattle.types.specs.declared.Made.{Made}
@@ -247,6 +249,19 @@ as-lends file (c ∷ cs) s l = all-append (LendsIn file) (singles c s) (singly c
     go : (c : Call) → LendsCall file c → LendsAll file (singles c s)
     go (one c) l = (l, tt)
     go (burst lent expired count out) l = steps-lend file lent l expired (madeIn (burstSpec s lent expired count (length out))) out
+
+steps-proper : (lent : List ℕ) → Bytes lent → (expired : Bool) (ms : List Made) (out : List ℕ) → All ProperSingle (asSteps lent expired ms out)
+steps-proper lent b expired [] out = tt
+steps-proper lent b expired (m ∷ ms) out = (b, steps-proper lent b false ms (drop (m .length) out))
+
+pub as-proper : (cs : List Call) (s : State) → Proper cs → All ProperSingle (singly cs s)
+unfolding singly
+as-proper [] s p = tt
+as-proper (c ∷ cs) s p = all-append ProperSingle (singles c s) (singly cs (afterCall c s)) (go c (p .0)) (as-proper cs (afterCall c s) (p .1))
+  where
+    go : (c : Call) → ProperCall c → All ProperSingle (singles c s)
+    go (one c) p = (p, tt)
+    go (burst lent expired count out) p = steps-proper lent p expired (madeIn (burstSpec s lent expired count (length out))) out
 
 -- ---- a run up to some moment
 

@@ -1,4 +1,4 @@
--- "Byte cases": document 01's M1 to M12 about the definitions together, and request R-1's, one statement over the list. Proof: proofs/Cases.antt.
+-- "Byte cases": document 01's M1 to M12 about the definitions together, and those of requests R-1 and R-2, one statement over the list. Proof: proofs/Cases.antt.
 -- Assumes nothing.
 use mathlib.Core.Path.{_≡_}
 use mathlib.Core.Bool.{Bool, true, false}
@@ -11,7 +11,7 @@ use Rattle.rules.specs.Put.{noRemote, putSpec}
 use Rattle.rules.specs.Step.{stepSpec}
 use Rattle.rules.specs.Cancel.{newSpec}
 use Rattle.rules.specs.Burst.{burstSpec, burstBytes}
-use Rattle.rules.specs.Runs.{Call, one, burst, put, deliver, step, Shown, went, madeIn, trace, behind}
+use Rattle.rules.specs.Runs.{Call, one, burst, put, deliver, step, cancel, Shown, went, madeIn, trace, behind}
 use Rattle.types.specs.declared.RemoteEntityConfig.{RemoteEntityConfig}
 use Rattle.types.specs.declared.LocalEntityConfig.{LocalEntityConfig}
 use Rattle.types.specs.declared.Choice.the-variants.{Default}
@@ -59,6 +59,24 @@ b = 0x62 ∷ []
 
 abbrev pub file : List ℕ
 file = 0x41 ∷ 0x42 ∷ 0x43 ∷ 0x44 ∷ 0x45 ∷ []
+
+-- another file of the same length
+abbrev pub other : List ℕ
+other = 0x58 ∷ 0x59 ∷ 0x5A ∷ 0x57 ∷ 0x46 ∷ []
+
+-- pieces of another length
+unfoldable pub cutTo : ℕ → RemoteEntityConfig → RemoteEntityConfig
+cutTo n r =
+    record {
+      id = r .id;
+      maxpacket = r .maxpacket;
+      maxsegment = n;
+      checksum = r .checksum;
+      crc = r .crc;
+      unacknowledged = r .unacknowledged;
+      closure = r .closure;
+      limit = r .limit;
+    }
 
 -- ---- calls on a fresh handler
 
@@ -172,6 +190,19 @@ byteCases =
     ∷ (run 0 unackRemote file (bursts 60 ∷ bursts 60 ∷ []) gives wholeStream)
     -- R-1: "The expiry flag holds for the first step only": the EOF once again, then nothing
     ∷ (expiredLengths (stepCalls 4 file) gives 17 ∷ 0 ∷ [])
+    -- R-2: "the checksum is that of the bytes sent": another file lent behind M2, then that file to the end
+    ∷ (run 2 unackRemote file (stepCalls 2 file ++ stepCalls 2 other) gives
+    (went (some (0x34 ∷ 0x00 ∷ 0x05 ∷ 0x00 ∷ 0x01 ∷ 0x07 ∷ 0x02 ∷ 0x00 ∷ 0x00 ∷ 0x00 ∷ 0x04 ∷ 0x46 ∷ []))
+    ∷ went (some (0x24 ∷ 0x00 ∷ 0x0A ∷ 0x00 ∷ 0x01 ∷ 0x07 ∷ 0x02 ∷ 0x04 ∷ 0x00 ∷ 0x87 ∷ 0x42 ∷ 0x43 ∷ 0x44 ∷ 0x00 ∷ 0x00 ∷ 0x00 ∷ 0x05 ∷ []))
+    ∷ []))
+    -- R-2: only for the EOF: M4; and a cancel behind M2 has the sum of the four bytes that left
+    ∷ (run 3 unackRemote file (stepCalls 3 file ++ stepCalls 1 other) gives (went (some m4) ∷ []))
+    ∷ (run 3 unackRemote file (stepCalls 2 file ++ one (cancel (1, 1) (1, 7)) ∷ stepCalls 1 other) gives
+    (went (some (0x24 ∷ 0x00 ∷ 0x0A ∷ 0x00 ∷ 0x01 ∷ 0x07 ∷ 0x02 ∷ 0x04 ∷ 0xF0 ∷ 0x41 ∷ 0x42 ∷ 0x43 ∷ 0x44 ∷ 0x00 ∷ 0x00 ∷ 0x00 ∷ 0x04 ∷ []))
+    ∷ []))
+    -- R-2: "a progress that is no multiple of four": pieces of 3 and of 1, and M4 behind them
+    ∷ (run 3 (cutTo 3 unackRemote) file (stepCalls 4 file) gives (went (some m4) ∷ []))
+    ∷ (run 6 (cutTo 1 unackRemote) file (stepCalls 7 file) gives (went (some m4) ∷ []))
     -- M5: "packet maximum 16: PacketLimit"; 17 is accepted
     ∷ (putNo (remote true 16 1) a b gives 8)
     ∷ (putNo (remote true 17 1) a b gives 0)

@@ -1,7 +1,7 @@
--- Sums taken piece by piece, by induction on the first piece; that each fits its field; and a polynomial reversed twice.
+-- Sums taken piece by piece, by induction on the first piece; a finished number that goes on; that each fits its field; and a polynomial reversed twice.
 -- Assumes nothing.
 use mathlib.Core.Path.{_≡_, refl, sym, ap, _∙_}
-use mathlib.Core.Bool.{Bool}
+use mathlib.Core.Bool.{Bool, true, false}
 use mathlib.Core.List.{List, [], _∷_, _++_}
 use Prim.Native.Nat.{ℕ, zero, suc, _+_, _*_, _/_, _%_, _^_, _<_}
 use native.Mathlib.Nat.{zero-add, suc-add, add-suc, add-zero, mul-le-mul-right, two-pow-succ}
@@ -12,8 +12,9 @@ use lib.ListN.{length}
 use Rattle.basis.specs.Pick.{pick}
 use Rattle.basis.specs.Bytes.{Bytes}
 use Rattle.basis.proofs.Pick.{cases}
-use Rattle.types.specs.declared.Checksum.{Checksum}
-use Rattle.rules_leaves.specs.Checksum.{word, more, modularFrom, modular, atPlace, modularAt, reversed, crcBit, crcBits, crcByte, crcFrom, crc32, checksumOf, sumIn, sumOf, crc16Bit, crc16Bits, crc16Byte, crc16From, crc16, Piecewise}
+use Rattle.types.specs.declared.Checksum.the-variants.{Is, UnknownType}
+use Rattle.rules_leaves.specs.Checksum.{word, more, modularFrom, modular, atPlace, modularAt, reversed, crcBit, crcBits, crcByte, crcFrom, crc32, castagnoli, ethernet, checksumOf, sumIn, sumOf, crc16Bit, crc16Bits, crc16Byte, crc16From, crc16, Piecewise, crc32On, sumOn, GoesOn}
+use Rattle.rules_leaves.proofs.Xor.{xor-back}
 
 -- ---- piece by piece
 
@@ -66,6 +67,38 @@ crc16-append c (x ∷ a) b = crc16-append (crc16Byte c x) a b
 
 pub piecewise : Piecewise
 piecewise = (modular-append, places, crc-append, crc16-append)
+
+-- ---- a finished number goes on
+
+crc32-append : (polynomial : ℕ) (a b : List ℕ) → crc32 polynomial (a ++ b) ≡ crc32On polynomial (crc32 polynomial a) b
+unfolding crc32 crc32On
+crc32-append polynomial a b =
+    let p = reversed 32 polynomial 0 in
+    rw (xor-back (crcFrom p 0xFFFFFFFF a) 0xFFFFFFFF, crc-append p 0xFFFFFFFF a b)
+
+-- by what the tests of the type say
+abbrev numbered : Bool → Bool → Bool → Bool → List ℕ → ℕ
+numbered t₀ t₂ t₃ t₁₅ s = sumIn (pick t₀ (Is (modular s)) (pick t₂ (Is (crc32 castagnoli s)) (pick t₃ (Is (crc32 ethernet s)) (pick t₁₅ (Is 0) UnknownType))))
+
+no-bytes : (t₀ t₂ t₃ t₁₅ : Bool) → numbered t₀ t₂ t₃ t₁₅ [] ≡ 0
+unfolding modular crc32
+no-bytes true t₂ t₃ t₁₅ = refl
+no-bytes false true t₃ t₁₅ = refl
+no-bytes false false true t₁₅ = refl
+no-bytes false false false true = refl
+no-bytes false false false false = refl
+
+more-bytes : (t₀ t₂ t₃ t₁₅ : Bool) (a b : List ℕ) → let sum = numbered t₀ t₂ t₃ t₁₅ a in
+    numbered t₀ t₂ t₃ t₁₅ (a ++ b) ≡ pick t₀ (modularAt sum (length a) b) (pick t₂ (crc32On castagnoli sum b) (pick t₃ (crc32On ethernet sum b) 0))
+more-bytes true t₂ t₃ t₁₅ a b = modular-append a b
+more-bytes false true t₃ t₁₅ a b = crc32-append castagnoli a b
+more-bytes false false true t₁₅ a b = crc32-append ethernet a b
+more-bytes false false false true a b = refl
+more-bytes false false false false a b = refl
+
+pub goes-on : GoesOn
+unfolding sumOf checksumOf sumOn
+goes-on = (λ type. no-bytes (eqb type 0) (eqb type 2) (eqb type 3) (eqb type 15), λ type. more-bytes (eqb type 0) (eqb type 2) (eqb type 3) (eqb type 15))
 
 -- ---- a polynomial reversed twice is itself, so that code can hold it reversed
 
@@ -158,33 +191,30 @@ crcFrom-lt : (p c : ℕ) (s : List ℕ) → p < 2 ^ 32 → c < 2 ^ 32 → Bytes 
 crcFrom-lt p c [] h k l = k
 crcFrom-lt p c (b ∷ s) h k l = crcFrom-lt p (crcByte p c b) s h (crcByte-lt p c b h k (l .0)) (l .1)
 
-crc32-lt : (polynomial : ℕ) (s : List ℕ) → Bytes s → crc32 polynomial s < 2 ^ 32
-unfolding crc32
-crc32-lt polynomial s h =
+crc32On-lt : (polynomial sum : ℕ) (s : List ℕ) → sum < 2 ^ 32 → Bytes s → crc32On polynomial sum s < 2 ^ 32
+unfolding crc32On
+crc32On-lt polynomial sum s h k =
     let p = reversed 32 polynomial 0 in
-    xor-lt 32 (crcFrom p 0xFFFFFFFF s) 0xFFFFFFFF (crcFrom-lt p 0xFFFFFFFF s (reversed-lt 32 polynomial) (omega arith) h) (omega arith)
+    let c = bitXor sum 0xFFFFFFFF in
+    let l = xor-lt 32 sum 0xFFFFFFFF h (omega arith) in
+    xor-lt 32 (crcFrom p c s) 0xFFFFFFFF (crcFrom-lt p c s (reversed-lt 32 polynomial) l k) (omega arith)
 
 more-lt : (sum w : ℕ) → more sum w < 2 ^ 32
 unfolding more
 more-lt sum w = omega arith
 
-modularFrom-lt : (sum : ℕ) (s : List ℕ) → sum < 2 ^ 32 → modularFrom sum s < 2 ^ 32
-modularFrom-lt sum [] h = h
-modularFrom-lt sum (a ∷ []) h = more-lt _ _
-modularFrom-lt sum (a ∷ b ∷ []) h = more-lt _ _
-modularFrom-lt sum (a ∷ b ∷ c ∷ []) h = more-lt _ _
-modularFrom-lt sum (a ∷ b ∷ c ∷ d ∷ s) h = modularFrom-lt (more sum (word a b c d)) s (more-lt _ _)
+modularAt-lt : (sum k : ℕ) (s : List ℕ) → sum < 2 ^ 32 → modularAt sum k s < 2 ^ 32
+modularAt-lt sum k [] h = h
+modularAt-lt sum k (b ∷ s) h = modularAt-lt (more sum (atPlace k b)) (suc k) s (more-lt _ _)
 
-modular-lt : (s : List ℕ) → modular s < 2 ^ 32
-unfolding modular
-modular-lt s = modularFrom-lt 0 s (omega arith)
+-- a number that goes on still fits
+pub sumOn-lt : (type sum n : ℕ) (s : List ℕ) → sum < 2 ^ 32 → Bytes s → sumOn type sum n s < 2 ^ 32
+unfolding sumOn
+sumOn-lt type sum n s h k =
+    pick-lt (eqb type 0) _ _ _ (modularAt-lt sum n s h)
+    (pick-lt (eqb type 2) _ _ _ (crc32On-lt _ sum s h k)
+    (pick-lt (eqb type 3) _ _ _ (crc32On-lt _ sum s h k) (omega arith)))
 
 -- a checksum fits the four bytes of an EOF
 pub sum-lt : (type : ℕ) (s : List ℕ) → Bytes s → sumOf type s < 2 ^ 32
-unfolding sumOf checksumOf
-sum-lt type s h =
-    let P : Checksum → Type 0 = λ (x : Checksum). sumIn x < 2 ^ 32 in
-    cases P (eqb type 0) _ _ (λ e. modular-lt s)
-    (λ e. cases P (eqb type 2) _ _ (λ e. crc32-lt _ s h)
-    (λ e. cases P (eqb type 3) _ _ (λ e. crc32-lt _ s h)
-    (λ e. cases P (eqb type 15) _ _ (λ e. omega arith) (λ e. omega arith))))
+sum-lt type s h = rw (goes-on .1 type [] s, goes-on .0 type) (sumOn-lt type 0 0 s (omega arith) h)
