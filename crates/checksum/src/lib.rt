@@ -10,7 +10,7 @@ use types::Checksum;
 ghost use mathlib.Core.Path.{_≡_};
 ghost use Prim.Native.Nat.{_+_, _<_};
 ghost use lib.ListN.{length, take, getD};
-ghost use Rattle.rules_leaves.specs.Checksum.{word, modular, reversed, crc32, castagnoli, ethernet, checksumOf, sumOf, crc16};
+ghost use Rattle.rules_leaves.specs.Checksum.{word, modular, atPlace, modularAt, reversed, crc32On, castagnoli, ethernet, checksumOf, sumOf, sumOn, crc16};
 ghost use Rattle.checksum.specs.Tables.{tableFrom, eights};
 
 // ---- type 0: the modular checksum
@@ -48,6 +48,34 @@ pub fn calc_modular_checksum(s: &[u8]) -> u32
     sum
 }
 
+// What a byte adds at a place of its word.
+fn at_place(k: u64, b: u8) -> u32
+    ensures { λ r. ⌜ r ≡ atPlace k b ⌝ }
+{
+    let v = b as u32;
+    match k % 4 {
+        0 => v * 16777216,
+        1 => v * 65536,
+        2 => v * 256,
+        _ => v,
+    }
+}
+
+// From the sum of the n bytes before these, a byte at a time.
+fn modular_bytes(start: u32, n: u64, s: &[u8]) -> u32
+    ensures { λ r. ⌜ r ≡ modularAt start n (now (s .entry)) ⌝ }
+{
+    let mut sum = start;
+    let mut k = n % 4;
+    let mut i = 0;
+    while i < s.len() {
+        sum = std::num::wrapping_add_u32(sum, at_place(k, s[i]));
+        k = (k + 1) % 4;
+        i += 1;
+    }
+    sum
+}
+
 // ---- the CRCs, a byte at a time by a table
 
 // From what the CRC was after the bytes before these: the byte that falls out picks what is added to the rest. Callers copy their constant table to a
@@ -74,26 +102,26 @@ pub const CRC_32C: u32 = 0x82F6_3B78;
 // Of 0x04C11DB7 (Ethernet's, CRC-32):
 pub const CRC_32: u32 = 0xEDB8_8320;
 
-// p is the polynomial reversed, t its table.
-fn crc32(p: u32, t: &[u32; 256], s: &[u8]) -> u32
+// p is the polynomial reversed, t its table. From the number of the bytes before these, 0 where there are none: its final xor is taken back.
+fn crc32(p: u32, t: &[u32; 256], sum: u32, s: &[u8]) -> u32
     requires { ⌜ now t ≡ eights p ⌝ }
-    ensures { λ r. ⌜ r ≡ crc32 (reversed 32 p 0) (now (s .entry)) ⌝ }
+    ensures { λ r. ⌜ r ≡ crc32On (reversed 32 p 0) sum (now (s .entry)) ⌝ }
 {
-    by_table(t, 0xFFFF_FFFF, s) ^ 0xFFFF_FFFF
+    by_table(t, sum ^ 0xFFFF_FFFF, s) ^ 0xFFFF_FFFF
 }
 
-fn crc32_castagnoli(s: &[u8]) -> u32
-    ensures { λ r. ⌜ r ≡ crc32 castagnoli (now (s .entry)) ⌝ }
+fn crc32_castagnoli(sum: u32, s: &[u8]) -> u32
+    ensures { λ r. ⌜ r ≡ crc32On castagnoli sum (now (s .entry)) ⌝ }
 {
     let t = EIGHTS_32C;
-    crc32(CRC_32C, &t, s)
+    crc32(CRC_32C, &t, sum, s)
 }
 
-fn crc32_ethernet(s: &[u8]) -> u32
-    ensures { λ r. ⌜ r ≡ crc32 ethernet (now (s .entry)) ⌝ }
+fn crc32_ethernet(sum: u32, s: &[u8]) -> u32
+    ensures { λ r. ⌜ r ≡ crc32On ethernet sum (now (s .entry)) ⌝ }
 {
     let t = EIGHTS_32;
-    crc32(CRC_32, &t, s)
+    crc32(CRC_32, &t, sum, s)
 }
 
 // ---- by type
@@ -103,8 +131,8 @@ fn checksum_of(kind: u8, s: &[u8]) -> Checksum
 {
     match kind {
         0 => Checksum::Is(calc_modular_checksum(s)),
-        2 => Checksum::Is(crc32_castagnoli(s)),
-        3 => Checksum::Is(crc32_ethernet(s)),
+        2 => Checksum::Is(crc32_castagnoli(0, s)),
+        3 => Checksum::Is(crc32_ethernet(0, s)),
         15 => Checksum::Is(0),
         _ => Checksum::UnknownType,
     }
@@ -127,6 +155,18 @@ pub fn sum_of(kind: u8, file: &[u8], n: usize) -> u32
     match calculate_checksum(kind, file, n) {
         Checksum::Is(sum) => sum,
         Checksum::UnknownType => 0,
+    }
+}
+
+// A number goes on over more bytes: sum is that of the n bytes before these.
+pub fn sum_on(kind: u8, sum: u32, n: u64, s: &[u8]) -> u32
+    ensures { λ r. ⌜ r ≡ sumOn kind sum n (now (s .entry)) ⌝ }
+{
+    match kind {
+        0 => modular_bytes(sum, n, s),
+        2 => crc32_castagnoli(sum, s),
+        3 => crc32_ethernet(sum, s),
+        _ => 0,
     }
 }
 

@@ -33,6 +33,12 @@ places k n sum [] = refl
 places k n sum (b ∷ s) =
     rw (same-place k n b, ← suc-add k (4 * n)) (places (suc k) n (more sum (atPlace k b)) s)
 
+-- a place counts modulo 4
+pub in-word : (sum k : ℕ) (s : List ℕ) → modularAt sum (k % 4) s ≡ modularAt sum k s
+in-word sum k s =
+    let e : k % 4 + 4 * (k / 4) ≡ k = omega arith in
+    sym (places (k % 4) (k / 4) sum s) ∙ ap (λ (n : ℕ). modularAt sum n s) e
+
 -- a word's sum is its bytes' sums
 word-bytes : (sum a b c d : ℕ) → more sum (word a b c d) ≡ more (more (more (more sum (atPlace 0 a)) (atPlace 1 b)) (atPlace 2 c)) (atPlace 3 d)
 unfolding atPlace
@@ -75,6 +81,10 @@ unfolding crc32 crc32On
 crc32-append polynomial a b =
     let p = reversed 32 polynomial 0 in
     rw (xor-back (crcFrom p 0xFFFFFFFF a) 0xFFFFFFFF, crc-append p 0xFFFFFFFF a b)
+
+pub crc32-whole : (polynomial : ℕ) (s : List ℕ) → crc32On polynomial 0 s ≡ crc32 polynomial s
+unfolding crc32 crc32On
+crc32-whole polynomial s = refl
 
 -- by what the tests of the type say
 abbrev numbered : Bool → Bool → Bool → Bool → List ℕ → ℕ
@@ -142,9 +152,9 @@ twice (suc n) p h =
     let g : p / 2 < 2 ^ n = omega (arith, two-pow-succ n) in
     ap (λ (v : ℕ). reversed (suc n) v 0) (lowest n p) ∙ highest n (p % 2) (reversed n (p / 2) 0) m (reversed-lt n (p / 2)) ∙ rw (twice n (p / 2) g) (omega arith)
 
-pub crc32-reversed : (p : ℕ) (s : List ℕ) → p < 2 ^ 32 → bitXor (crcFrom p 0xFFFFFFFF s) 0xFFFFFFFF ≡ crc32 (reversed 32 p 0) s
-unfolding crc32
-crc32-reversed p s h = rw (twice 32 p h)
+pub crc32-reversed : (p sum : ℕ) (s : List ℕ) → p < 2 ^ 32 → bitXor (crcFrom p (bitXor sum 0xFFFFFFFF) s) 0xFFFFFFFF ≡ crc32On (reversed 32 p 0) sum s
+unfolding crc32On
+crc32-reversed p sum s h = rw (twice 32 p h)
 
 -- ---- bounds
 
