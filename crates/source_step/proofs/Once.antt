@@ -1,4 +1,4 @@
--- The EOF taken from the PDU is the one that the definition computes again; and the expiry count that a step moves was below the limit.
+-- The state with the checksum behind the step is the definition's; and the expiry count that a step moves was below the limit.
 -- Assumes nothing.
 use mathlib.Core.Path.{_≡_, refl, sym, _∙_}
 use mathlib.Core.Bool.{Bool}
@@ -22,10 +22,10 @@ use Rattle.types.specs.declared.Written.the-variants.{Short, Wrote}
 use Rattle.types.specs.declared.Refusal.the-variants.{OutTooSmall}
 use Rattle.types.specs.declared.Answer.the-variants.{Accepted}
 use Rattle.source_step.proofs.Written.{on-short, on-wrote}
-use Rattle.source_step.specs.Once.{eofIn, afterWith, Countable}
+use Rattle.source_step.specs.Once.{sumAfter, afterWith, Countable}
 use Rattle.source_step.specs.Outcomes.{refusedBy, acceptedBy, steppedBy}
 
-pub after-once : (s : State) (file : List ℕ) (d : Due) → afterWith s (eofIn (sendingOf s file d)) d ≡ afterOf s file d
+pub after-once : (s : State) (file : List ℕ) (d : Due) → afterWith s (sumAfter s file d) d ≡ afterOf s file d
 after-once s file CancelEof = refl
 after-once s file Repair = refl
 after-once s file Metadata = refl
@@ -39,19 +39,19 @@ after-once s file Close = refl
 after-once s file Nothing = refl
 
 -- what a writer answered, w, is the definition's test of the room
-module _ (s : State) (file : List ℕ) (d : Due) (p : Sending) (out : List ℕ) (w : Written) (sent : p ≡ sendingOf s file d) (said : w ≡ writtenOf (bytesFor s file p) out) where
-  said-of : w ≡ writtenOf (bytesFor s file (sendingOf s file d)) out
+module _ (s : State) (file : List ℕ) (d : Due) (p : Sending) (out : List ℕ) (w : Written) (sent : p ≡ sendingOf s d) (said : w ≡ writtenOf (bytesFor s file p) out) where
+  said-of : w ≡ writtenOf (bytesFor s file (sendingOf s d)) out
   said-of = rw sent at said
 
   pub made-short : w ≡ Short → steppedBy s (refusedBy OutTooSmall) ≡ performed s file d (length out)
   unfolding performed
-  made-short e = on-short (bytesFor s file (sendingOf s file d)) out _ _ (sym e ∙ said-of)
+  made-short e = on-short (bytesFor s file (sendingOf s d)) out _ _ (sym e ∙ said-of)
 
-  pub made-wrote : (n : ℕ) → w ≡ Wrote n → steppedBy s (acceptedBy d (eofIn p) n) ≡ performed s file d (length out)
+  pub made-wrote : (n : ℕ) → w ≡ Wrote n → steppedBy s (acceptedBy d (sumAfter s file d) n) ≡ performed s file d (length out)
   unfolding performed
   made-wrote n e =
-      rw (sent, after-once s file d)
-      (on-wrote (bytesFor s file (sendingOf s file d)) out n _
+      rw (after-once s file d)
+      (on-wrote (bytesFor s file (sendingOf s d)) out n _
       (λ (k : ℕ). record { answer = Accepted; length = k; events = eventsOf s d; state = afterOf s file d }) (sym e ∙ said-of))
 
 module _ (s : State) (expired : Bool) where

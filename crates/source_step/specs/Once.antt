@@ -1,37 +1,41 @@
--- How the code of a step keeps to the definitions while it computes the EOF once: the PDU holds it, and the new state takes it from there.
+-- How the code of a step keeps to the definitions while it reads the file once its PDU is written: the new state takes the checksum behind the step from there.
 -- Assumes nothing.
-use Prim.Native.Nat.{_+_, _<_}
-use Rattle.rules.specs.States.{withQueue, withMarks, counted, noEof, idle}
+use mathlib.Core.List.{List}
+use Prim.Native.Nat.{ℕ, _+_, _<_}
+use Rattle.rules.specs.States.{withQueue, withMarks, counted, idle}
 use Rattle.rules.specs.Queues.{served}
-use Rattle.rules.specs.Step.{afterCancelEof, afterMetadata, afterData, afterEof, faultMarked}
-use Rattle.types.specs.declared.Eof.{Eof}
+use Rattle.rules.specs.Step.{afterCancelEof, afterMetadata, sumBehind, afterData, afterEof, faultMarked}
 use Rattle.types.specs.declared.State.{State}
 use Rattle.types.specs.declared.Due.{Due}
 use Rattle.types.specs.declared.Due.the-variants.{CancelEof, Repair, Metadata, Data, NoErrorEof, EofAgain, FaultCancel, FaultIgnore, FaultAbandon, Close, Nothing}
-use Rattle.types.specs.declared.Sending.{Sending}
-use Rattle.types.specs.declared.Sending.the-variants.{Nothing as NoPdu, Metadata as MetadataPdu, FileData, Eof as EofPdu, AckFinished}
 
--- the EOF in a PDU
-abbrev pub eofIn : Sending → Eof
-eofIn NoPdu = noEof
-eofIn MetadataPdu = noEof
-eofIn (FileData o n) = noEof
-eofIn (EofPdu e) = e
-eofIn (AckFinished c) = noEof
+-- the checksum of the first-pass bytes behind a step: no other case moves it
+abbrev pub sumAfter : State → List ℕ → Due → ℕ
+sumAfter s file CancelEof = s .file .sum
+sumAfter s file Repair = s .file .sum
+sumAfter s file Metadata = s .file .sum
+sumAfter s file Data = sumBehind s file
+sumAfter s file NoErrorEof = s .file .sum
+sumAfter s file EofAgain = s .file .sum
+sumAfter s file (FaultCancel c) = s .file .sum
+sumAfter s file (FaultIgnore c) = s .file .sum
+sumAfter s file (FaultAbandon c) = s .file .sum
+sumAfter s file Close = s .file .sum
+sumAfter s file Nothing = s .file .sum
 
--- the state after each case, with the EOF that left
-abbrev pub afterWith : State → Eof → Due → State
-afterWith s e CancelEof = afterCancelEof s e
-afterWith s e Repair = withQueue s (served (s .fixed .segment) (s .queue))
-afterWith s e Metadata = afterMetadata s
-afterWith s e Data = afterData s
-afterWith s e NoErrorEof = afterEof s e
-afterWith s e EofAgain = withMarks s (counted (s .marks) (s .marks .count + 1))
-afterWith s e (FaultCancel c) = afterCancelEof (faultMarked s c) e
-afterWith s e (FaultIgnore c) = withMarks s (counted (s .marks) 0)
-afterWith s e (FaultAbandon c) = idle (s .number)
-afterWith s e Close = idle (s .number)
-afterWith s e Nothing = s
+-- the state after each case, with that checksum
+abbrev pub afterWith : State → ℕ → Due → State
+afterWith s k CancelEof = afterCancelEof s
+afterWith s k Repair = withQueue s (served (s .fixed .segment) (s .queue))
+afterWith s k Metadata = afterMetadata s
+afterWith s k Data = afterData s k
+afterWith s k NoErrorEof = afterEof s
+afterWith s k EofAgain = withMarks s (counted (s .marks) (s .marks .count + 1))
+afterWith s k (FaultCancel c) = afterCancelEof (faultMarked s c)
+afterWith s k (FaultIgnore c) = withMarks s (counted (s .marks) 0)
+afterWith s k (FaultAbandon c) = idle (s .number)
+afterWith s k Close = idle (s .number)
+afterWith s k Nothing = s
 
 -- the expiry count moves only below the limit, which is a byte: so it stays one
 abbrev pub Countable : State → Due → Type 0

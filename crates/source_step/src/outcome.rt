@@ -3,7 +3,6 @@
 // After cfdp-rs 0.3.0, src/source.rs (Apache-2.0); changed, see NOTICE.
 use types::Answer;
 use types::Due;
-use types::Eof;
 use types::Refusal;
 use types::State;
 use types::Stepped;
@@ -15,33 +14,32 @@ ghost use Rattle.rules.specs.Step.{changed, refusedStep, sendingOf, bytesFor, p
 ghost use Rattle.source_step.specs.Once.{Countable};
 ghost use Rattle.source_step.specs.Outcomes.{refusedBy, acceptedBy, steppedBy};
 
-// Where it is accepted: what was due, the EOF that left, if one did, and how many bytes of the out buffer are the PDU.
+// Where it is accepted: what was due, the checksum of the first-pass bytes behind it, and how many bytes of the out buffer are the PDU.
 pub struct Outcome {
     pub answer: Answer,
     pub due: Due,
-    pub eof: Eof,
+    pub sum: u32,
     pub length: usize,
 }
 
 fn refused_by(k: Refusal) -> Outcome
     ensures { λ r. ⌜ r ≡ refusedBy k ⌝ }
 {
-    let eof = source_state::no_eof();
     Outcome {
         answer: Answer::Refused(k),
         due: Due::Nothing,
-        eof: eof,
+        sum: 0,
         length: 0,
     }
 }
 
-fn accepted_by(d: Due, e: Eof, n: usize) -> Outcome
-    ensures { λ r. ⌜ r ≡ acceptedBy d e n ⌝ }
+fn accepted_by(d: Due, sum: u32, n: usize) -> Outcome
+    ensures { λ r. ⌜ r ≡ acceptedBy d sum n ⌝ }
 {
     Outcome {
         answer: Answer::Accepted,
         due: d,
-        eof: e,
+        sum: sum,
         length: n,
     }
 }
@@ -60,17 +58,17 @@ fn changed(s: State, lent: usize) -> bool
     true
 }
 
-// The PDU due is emitted, or refused as OutTooSmall with nothing written.
+// The PDU due is emitted, or refused as OutTooSmall with nothing written and nothing summed.
 fn made(s: State, file: &[u8], d: Due, out: &mut [u8]) -> Outcome
     requires { ⌜ Countable s d ⌝ }
     ensures { λ r. ⌜ (steppedBy s r ≡ performed s (now (file .entry)) d (length (now (out .entry)))) × Countable s (r .due) ⌝ }
-    ensures { λ r. ⌜ now (out .exit) ≡ inFront (bytesFor s (now (file .entry)) (sendingOf s (now (file .entry)) d)) (now (out .entry)) ⌝ }
+    ensures { λ r. ⌜ now (out .exit) ≡ inFront (bytesFor s (now (file .entry)) (sendingOf s d)) (now (out .entry)) ⌝ }
 {
-    let p = source_due::sending::sending_of(s, file, d);
+    let p = source_due::sending::sending_of(s, d);
     let w = source_due::emit::emit(s, file, p, out);
     match w {
         Written::Short => refused_by(Refusal::OutTooSmall),
-        Written::Wrote(n) => accepted_by(d, crate::after::eof_in(p), n),
+        Written::Wrote(n) => accepted_by(d, crate::after::sum_after(s, file, d), n),
     }
 }
 
@@ -106,7 +104,7 @@ pub(crate) fn stepped_by(s: State, o: Outcome) -> Stepped
     match a {
         Answer::Accepted => {
             let events = crate::events::events_of(s, d);
-            let t = crate::after::after_of(s, o.eof, d);
+            let t = crate::after::after_of(s, o.sum, d);
             Stepped {
                 answer: Answer::Accepted,
                 length: o.length,

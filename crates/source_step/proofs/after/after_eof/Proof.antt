@@ -12,15 +12,12 @@ returns : tie.Need-returns
 unfolding afterEof
 returns c = rw (c .start-positive-ack-procedure .ensures) (search picks depth 8)
 
-keeping-requires : tie.Need-keeping-requires
-keeping-requires c κs = search needs
-
 to-step-requires : tie.Need-to-step-requires
 to-step-requires c κs = search needs
 
 returns-2 : tie.Need-returns-2
 unfolding afterEof
-returns-2 c = rw (c .to-step .ensures, c .before .keeping .ensures) (search picks depth 8)
+returns-2 c = rw (c .to-step .ensures) (search picks depth 8)
 
 idle-requires : tie.Need-idle-requires
 idle-requires c κs = search needs
@@ -35,7 +32,6 @@ after-eof-spec =
     (tie.spec
     start-positive-ack-procedure-requires
     returns
-    keeping-requires
     to-step-requires
     returns-2
     idle-requires

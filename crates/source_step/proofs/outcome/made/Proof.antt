@@ -19,8 +19,8 @@ refused-by-requires c κs = search needs
 enum-known-w : tie.Need-enum-known-w
 enum-known-w c = search needs
 
-eof-in-requires : tie.Need-eof-in-requires
-eof-in-requires c κs = search needs
+sum-after-requires : tie.Need-sum-after-requires
+sum-after-requires c κs = search needs
 
 accepted-by-requires : tie.Need-accepted-by-requires
 accepted-by-requires c κs = search needs
@@ -41,7 +41,7 @@ returns-2 : tie.Need-returns-2
 returns-2 c = let p = c .before .before .before .before .before .before .before .before .before .sending-of in
     let w = c .before .before .before .before .before .before .before .emit in
     let a = c .before .before .before .before .before .before .before .before .before .before .before .before in
-    ((rw (c .accepted-by .ensures, c .before .eof-in .ensures) (made-wrote (a .args .s) (a .args .file .now) (a .args .d) _ _ _ (p .ensures) (w .ensures .0) _ (c .before .before .before .w .given .1)), rw (c .accepted-by .ensures) (a .pre)), rw (p .ensures) at (w .ensures .1))
+    ((rw (c .accepted-by .ensures, c .before .sum-after .ensures) (made-wrote (a .args .s) (a .args .file .now) (a .args .d) _ _ _ (p .ensures) (w .ensures .0) _ (c .before .before .before .w .given .1)), rw (c .accepted-by .ensures) (a .pre)), rw (p .ensures) at (w .ensures .1))
 
 pub made-spec : {M : Type 1} → statement M
 made-spec =
@@ -52,7 +52,7 @@ made-spec =
     enum-told
     refused-by-requires
     enum-known-w
-    eof-in-requires
+    sum-after-requires
     accepted-by-requires
     same-length
     returns
