@@ -6,7 +6,7 @@ use mathlib.Core.List.{List}
 use Prim.Native.Nat.{ℕ, _+_}
 use lib.Dec.{eqb}
 use Rattle.basis.specs.Pick.{pick}
-use Rattle.rules.specs.States.{toStep, idle, withFile, keeping}
+use Rattle.rules.specs.States.{toStep, idle}
 use Rattle.rules.specs.Step.{nextLength, onward, awaiting, faultMarked, afterCancelEof, afterMetadata, afterData, afterEof, eventsOf}
 use Rattle.source_step.specs.Once.{afterWith}
 use Rattle.source_step.specs.Bulk.{bulkOf, isKept}
@@ -20,7 +20,6 @@ use Rattle.source_step.specs.declared.bulk.Bulk.the-variants.{Kept, Emptied, Id
 use Rattle.seam_rules.specs.Memory.{stateOf, fixedTaken, heldOf, reported, reportOf, noReport}
 use Rattle.seam_rules.specs.Seam.{byAnswer}
 use Rattle.types.specs.declared.State.{State}
-use Rattle.types.specs.declared.Eof.{Eof}
 use Rattle.types.specs.declared.TransactionStep.the-variants.{SendingFileData, SendingEof, WaitingForFinished}
 use Rattle.types.specs.declared.Due.{Due}
 use Rattle.types.specs.declared.Due.the-variants.{CancelEof, Repair, Metadata, Data, NoErrorEof, EofAgain, FaultCancel, FaultIgnore, FaultAbandon, Close, Nothing}
@@ -61,28 +60,28 @@ module _ (h : Handler) (r : Report) where
   kept-or-idle true false x y p q = refl
   kept-or-idle false c x y p q = q
 
-  by-due : (e : Eof) (d : Due) → After (bulkOf s d) (afterWith s e d)
+  by-due : (k : ℕ) (d : Due) → After (bulkOf s d) (afterWith s k d)
   unfolding lightOf lightHeld queued heldOf stateOf fixedTaken afterCancelEof afterMetadata afterData afterEof
-  by-due e CancelEof = idle-or (s .fixed .head .unacknowledged) Kept (awaiting s e) refl
-  by-due e Repair = refl
-  by-due e Metadata = kept-kept (eqb (s .fixed .size) 0) (toStep s SendingEof) (toStep s SendingFileData) refl refl
-  by-due e Data =
+  by-due k CancelEof = idle-or (s .fixed .head .unacknowledged) Kept (awaiting s) refl
+  by-due k Repair = refl
+  by-due k Metadata = kept-kept (eqb (s .fixed .size) 0) (toStep s SendingEof) (toStep s SendingFileData) refl refl
+  by-due k Data =
       let p = s .file .progress + nextLength s in
-      kept-kept (eqb p (s .fixed .size)) (toStep (onward s p) SendingEof) (onward s p) refl refl
-  by-due e NoErrorEof = kept-or-idle (s .fixed .head .unacknowledged) (s .fixed .closure) (toStep (withFile s (keeping (s .file) e)) WaitingForFinished) (awaiting s e) refl refl
-  by-due e EofAgain = refl
-  by-due e (FaultCancel c) = idle-or (s .fixed .head .unacknowledged) Emptied (awaiting (faultMarked s c) e) refl
-  by-due e (FaultIgnore c) = refl
-  by-due e (FaultAbandon c) = refl
-  by-due e Close = refl
-  by-due e Nothing = refl
+      kept-kept (eqb p (s .fixed .size)) (toStep (onward s p k) SendingEof) (onward s p k) refl refl
+  by-due k NoErrorEof = kept-or-idle (s .fixed .head .unacknowledged) (s .fixed .closure) (toStep s WaitingForFinished) (awaiting s) refl refl
+  by-due k EofAgain = refl
+  by-due k (FaultCancel c) = idle-or (s .fixed .head .unacknowledged) Emptied (awaiting (faultMarked s c)) refl
+  by-due k (FaultIgnore c) = refl
+  by-due k (FaultAbandon c) = refl
+  by-due k Close = refl
+  by-due k Nothing = refl
 
 told-as : (h : Handler) (o : Outcome) (a : Answer) → let q = steppedAs (stateOf h) o a in
     toldDone h (toldAs h (stateOf h) o a) ≡ byAnswer h (q .state) (reportOf q) (q .answer)
 unfolding keptLight lightHeld reported
 told-as h o Accepted =
     ap (λ (k : Handler). record { code = 0; held = k })
-    (by-due h (reportOf (record { answer = Accepted; length = o .length; events = eventsOf (stateOf h) (o .due); state = stateOf h })) (o .eof) (o .due))
+    (by-due h (reportOf (record { answer = Accepted; length = o .length; events = eventsOf (stateOf h) (o .due); state = stateOf h })) (o .sum) (o .due))
 told-as h o (Refused k) = refl
 
 pub told-done : (h : Handler) (o : Outcome) → let q = steppedBy (stateOf h) o in

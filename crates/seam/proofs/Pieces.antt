@@ -1,4 +1,4 @@
--- Where `is_piece` says yes, the step due is a data PDU of L bytes with more to follow: accepted, without an event, and nothing moves but the request's start and the report.
+-- Where `is_piece` says yes, the step due is a data PDU of L bytes with more to follow: accepted, without an event, and nothing moves but the request's start, the checksum of the first pass and the report.
 -- Assumes nothing.
 use mathlib.Core.Path.{_≡_, refl}
 use mathlib.Core.Bool.{Bool, true, false, false≢true}
@@ -16,7 +16,7 @@ use Rattle.rules_pdu.specs.Layout.{fileData, encode, pduLength}
 use Rattle.rules_pdu.proofs.Round.{length-encode}
 use Rattle.rules.specs.States.{isIdle}
 use Rattle.rules.specs.Queues.{isMetadata, oldest, piece, served}
-use Rattle.rules.specs.Step.{eofOwed, dueOf, repairOf, nextLength, sendingOf, bytesFor, onward, afterData, afterOf, quiet, eventsOf, changed, performed, stepSpec, stepBytes}
+use Rattle.rules.specs.Step.{eofOwed, dueOf, repairOf, nextLength, sendingOf, bytesFor, sumBehind, onward, afterData, afterOf, quiet, eventsOf, changed, performed, stepSpec, stepBytes}
 use Rattle.types.specs.declared.Head.{Head}
 use Rattle.types.specs.declared.SegmentRequest.{SegmentRequest}
 use Rattle.types.specs.declared.Queue.{Queue}
@@ -167,9 +167,10 @@ served-more : (L : ℕ) (q : Queue) → oldest q .start + L < oldest q .end → 
 unfolding served
 served-more L q e = rw (lt-leb (oldest q .end - oldest q .start) L (omega arith))
 
-data-more : (s : State) → s .file .progress + s .fixed .segment < s .fixed .size → (nextLength s ≡ s .fixed .segment) × (afterData s ≡ onward s (s .file .progress + s .fixed .segment))
+data-more : (s : State) (k : ℕ) → s .file .progress + s .fixed .segment < s .fixed .size
+    → (nextLength s ≡ s .fixed .segment) × (afterData s k ≡ onward s (s .file .progress + s .fixed .segment) k)
 unfolding afterData
-data-more s e =
+data-more s k e =
     let m : nextLength s ≡ s .fixed .segment = taken-min (s .fixed .segment) (s .fixed .size - s .file .progress) (omega arith) in
     (m, rw (m, ne-eqb (s .file .progress + s .fixed .segment) (s .fixed .size) (λ z. omega arith)))
 
@@ -187,11 +188,11 @@ module _ (h : Handler) (file : List ℕ) (x : Bool) (out : List ℕ) (e : isPiec
 
   abbrev Result : Type 0
   Result =
-      (stepSpec (stateOf h) file x (length out) ≡ record { answer = Accepted; length = n; events = quiet (stateOf h); state = stateOf (pieceHeld h n) })
+      (stepSpec (stateOf h) file x (length out) ≡ record { answer = Accepted; length = n; events = quiet (stateOf h); state = stateOf (pieceHeld h file n) })
       × (stepBytes (stateOf h) file x out ≡ inFront (pieceBytes h file) out)
 
-  by-due : (d : Due) → dueOf (stateOf h) x ≡ d → bytesFor (stateOf h) file (sendingOf (stateOf h) file d) ≡ pieceBytes h file
-      → eventsOf (stateOf h) d ≡ quiet (stateOf h) → afterOf (stateOf h) file d ≡ stateOf (pieceHeld h n) → Result
+  by-due : (d : Due) → dueOf (stateOf h) x ≡ d → bytesFor (stateOf h) file (sendingOf (stateOf h) d) ≡ pieceBytes h file
+      → eventsOf (stateOf h) d ≡ quiet (stateOf h) → afterOf (stateOf h) file d ≡ stateOf (pieceHeld h file n) → Result
   unfolding stepSpec performed stepBytes
   by-due d a b c f =
       let u = unchanged h file (length out) e in
@@ -207,12 +208,12 @@ module _ (h : Handler) (file : List ℕ) (x : Bool) (out : List ℕ) (e : isPiec
   eof-none = no-eof h (parts h (length file) (length out) e .0)
 
   repair-bytes : requestDue h ≡ oldest (h .queue) → oldest (h .queue) .start + h .transaction .segment < oldest (h .queue) .end
-      → bytesFor (stateOf h) file (sendingOf (stateOf h) file Repair) ≡ pieceBytes h file
+      → bytesFor (stateOf h) file (sendingOf (stateOf h) Repair) ≡ pieceBytes h file
   unfolding stateOf fixedTaken pieceBytes
   repair-bytes r m = rw (repair-sends (h .transaction .segment) (oldest (h .queue)) m, r)
 
   repair-after : ltb 0 (h .queue .count) ≡ true → oldest (h .queue) .start + h .transaction .segment < oldest (h .queue) .end
-      → afterOf (stateOf h) file Repair ≡ stateOf (pieceHeld h n)
+      → afterOf (stateOf h) file Repair ≡ stateOf (pieceHeld h file n)
   unfolding stateOf fixedTaken pieceHeld
   repair-after c m = rw (served-more (h .transaction .segment) (h .queue) m, c)
 
@@ -228,14 +229,14 @@ module _ (h : Handler) (file : List ℕ) (x : Bool) (out : List ℕ) (e : isPiec
   sending c = let k = rw c at (served-parts .1) in rw (eqb-true (h .step) 2 k)
 
   pass-bytes : requestDue h ≡ passLeft h → h .file .progress + h .transaction .segment < h .transaction .size
-      → bytesFor (stateOf h) file (sendingOf (stateOf h) file Data) ≡ pieceBytes h file
+      → bytesFor (stateOf h) file (sendingOf (stateOf h) Data) ≡ pieceBytes h file
   unfolding stateOf fixedTaken pieceBytes
-  pass-bytes r m = rw (data-more (stateOf h) m .0, r)
+  pass-bytes r m = rw (data-more (stateOf h) 0 m .0, r)
 
   pass-after : ltb 0 (h .queue .count) ≡ false → h .file .progress + h .transaction .segment < h .transaction .size
-      → afterOf (stateOf h) file Data ≡ stateOf (pieceHeld h n)
-  unfolding stateOf fixedTaken pieceHeld
-  pass-after c m = rw (data-more (stateOf h) m .1, c)
+      → afterOf (stateOf h) file Data ≡ stateOf (pieceHeld h file n)
+  unfolding stateOf fixedTaken pieceHeld sumBehind
+  pass-after c m = let d = data-more (stateOf h) (sumBehind (stateOf h) file) m in rw (d .1, d .0, c)
 
   pass : ltb 0 (h .queue .count) ≡ false → Result
   unfolding stateOf
@@ -251,30 +252,30 @@ module _ (h : Handler) (file : List ℕ) (x : Bool) (out : List ℕ) (e : isPiec
   step-made : Result
   step-made = by-count (ltb 0 (h .queue .count)) refl
 
-piece-report : (h : Handler) (n : ℕ) → pieceHeld h n .report ≡ reported (record { length = n; events = quiet (stateOf h) })
+piece-report : (h : Handler) (file : List ℕ) (n : ℕ) → pieceHeld h file n .report ≡ reported (record { length = n; events = quiet (stateOf h) })
 unfolding pieceHeld pieceReport reported stateOf fixedTaken headTaken
-piece-report h n =
+piece-report h file n =
     cases (λ (u : Handler). u .report ≡ reported (record { length = n; events = quiet (stateOf h) })) (ltb 0 (h .queue .count))
     (heldWith h (h .file) (shortened (h .transaction .segment) (h .queue)) (pieceReport (h .transaction) n))
-    (heldWith h (advanced (h .transaction .segment) (h .file)) (h .queue) (pieceReport (h .transaction) n))
+    (heldWith h (advanced (h .transaction) file (h .file)) (h .queue) (pieceReport (h .transaction) n))
     (λ c. refl)
     (λ c. refl)
 
-piece-config : (h : Handler) (n : ℕ) → pieceHeld h n .config ≡ h .config
+piece-config : (h : Handler) (file : List ℕ) (n : ℕ) → pieceHeld h file n .config ≡ h .config
 unfolding pieceHeld
-piece-config h n =
+piece-config h file n =
     cases (λ (u : Handler). u .config ≡ h .config) (ltb 0 (h .queue .count))
     (heldWith h (h .file) (shortened (h .transaction .segment) (h .queue)) (pieceReport (h .transaction) n))
-    (heldWith h (advanced (h .transaction .segment) (h .file)) (h .queue) (pieceReport (h .transaction) n))
+    (heldWith h (advanced (h .transaction) file (h .file)) (h .queue) (pieceReport (h .transaction) n))
     (λ c. refl)
     (λ c. refl)
 
 pub piece-step : (h : Handler) (file : List ℕ) (x : Bool) (out : List ℕ) → isPiece h (length file) (length out) ≡ true
     → let n = length (pieceBytes h file) in
-    (stepSpec (stateOf h) file x (length out) ≡ record { answer = Accepted; length = n; events = quiet (stateOf h); state = stateOf (pieceHeld h n) })
+    (stepSpec (stateOf h) file x (length out) ≡ record { answer = Accepted; length = n; events = quiet (stateOf h); state = stateOf (pieceHeld h file n) })
     × (stepBytes (stateOf h) file x out ≡ inFront (pieceBytes h file) out)
-    × (pieceHeld h n .report ≡ reported (record { length = n; events = quiet (stateOf h) }))
-    × (pieceHeld h n .config ≡ h .config)
+    × (pieceHeld h file n .report ≡ reported (record { length = n; events = quiet (stateOf h) }))
+    × (pieceHeld h file n .config ≡ h .config)
 piece-step h file x out e =
     let m = step-made h file x out e in
-    (m .0, m .1, piece-report h (length (pieceBytes h file)), piece-config h (length (pieceBytes h file)))
+    (m .0, m .1, piece-report h file (length (pieceBytes h file)), piece-config h file (length (pieceBytes h file)))

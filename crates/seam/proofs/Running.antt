@@ -396,7 +396,7 @@ turned-step u file expired room =
     }
 
 pub turned-piece : (u : Handler) (file : List ℕ) (expired : Bool) (room : List ℕ) → isPiece u (length file) (length room) ≡ true
-    → Turned u (stepSpec (stateOf u) file expired (length room)) (pieceHeld u (length (pieceBytes u file))) 0
+    → Turned u (stepSpec (stateOf u) file expired (length room)) (pieceHeld u file (length (pieceBytes u file))) 0
 turned-piece u file expired room p =
     let k = piece-step u file expired room p in
     rw (k .0) (record { says = refl; config = k .3; state = refl; report = λ e. k .2; refused = λ e. absurd (e refl) })
@@ -418,7 +418,7 @@ module _ (u : Handler) (file out : List ℕ) (at : ℕ) (w : at ≤ length out) 
         f ∙ put-rest at out part w ∙ ap (λ (y : List ℕ). take at out ++ y) (g ∙ ap₂ (λ (b : Bool) (y : List ℕ). stepBytes (stateOf u) file b y) i p),
       )
 
-  pub gives-piece : (x : Bool) → isPiece u (length file) (length out - at) ≡ true → (n : ℕ) → n ≡ length (pieceBytes u file) → v ≡ pieceHeld u n → found ≡ 0
+  pub gives-piece : (x : Bool) → isPiece u (length file) (length out - at) ≡ true → (n : ℕ) → n ≡ length (pieceBytes u file) → v ≡ pieceHeld u file n → found ≡ 0
       → part ≡ inFront (pieceBytes u file) (midOf at (length out - at) out) → Gives x
   gives-piece x q n e a b g =
       let d = drop at out in

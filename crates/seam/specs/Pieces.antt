@@ -7,8 +7,9 @@ use Prim.Native.Nat.{ℕ, _+_, _-_}
 use lib.Dec.{eqb, leb, ltb}
 use lib.ListN.{take, drop, set}
 use Rattle.basis.specs.Pick.{pick}
+use Rattle.rules_leaves.specs.Checksum.{sumOn}
 use Rattle.rules_pdu.specs.Layout.{fileData, encode, pduLength}
-use Rattle.rules.specs.States.{notFinished, progressed}
+use Rattle.rules.specs.States.{notFinished}
 use Rattle.rules.specs.Queues.{oldest}
 use Rattle.types.specs.declared.SegmentRequest.{SegmentRequest}
 use Rattle.types.specs.declared.Queue.{Queue}
@@ -74,9 +75,10 @@ pieceReport t n =
 abbrev pub shortened : ℕ → Queue → Queue
 shortened L q = record { places = set (q .places) 0 (record { start = oldest q .start + L; end = oldest q .end }); count = q .count }
 
--- of the first pass L bytes more
-abbrev pub advanced : ℕ → FileParams → FileParams
-advanced L f = progressed f (f .progress + L)
+-- of the first pass L bytes more: progress and the checksum move past them
+abbrev pub advanced : Transaction → List ℕ → FileParams → FileParams
+advanced t file f =
+    record { progress = f .progress + t .segment; sum = sumOn (t .checksum) (f .sum) (f .progress) (take (t .segment) (drop (f .progress) file)) }
 
 abbrev pub heldWith : Handler → FileParams → Queue → Report → Handler
 heldWith h f q r =
@@ -92,9 +94,9 @@ heldWith h f q r =
       report = r;
     }
 
--- by the PDU's length
-unfoldable pub pieceHeld : Handler → ℕ → Handler
-pieceHeld h n =
+-- by the file and the PDU's length; a repair moves no checksum
+unfoldable pub pieceHeld : Handler → List ℕ → ℕ → Handler
+pieceHeld h file n =
     pick (ltb 0 (h .queue .count))
     (heldWith h (h .file) (shortened (h .transaction .segment) (h .queue)) (pieceReport (h .transaction) n))
-    (heldWith h (advanced (h .transaction .segment) (h .file)) (h .queue) (pieceReport (h .transaction) n))
+    (heldWith h (advanced (h .transaction) file (h .file)) (h .queue) (pieceReport (h .transaction) n))

@@ -33,7 +33,7 @@ madeTold s o =
     record {
       code = 0;
       heavy = not (isKept (bulkOf s (o .due)));
-      light = lightOf (s .fixed) (afterWith s (o .eof) (o .due)) (reportOf (record { answer = Accepted; length = o .length; events = eventsOf s (o .due); state = s }));
+      light = lightOf (s .fixed) (afterWith s (o .sum) (o .due)) (reportOf (record { answer = Accepted; length = o .length; events = eventsOf s (o .due); state = s }));
       bulk = bulkOf s (o .due);
     }
 

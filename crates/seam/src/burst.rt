@@ -53,7 +53,7 @@ fn run(h: Handler, r: [Report; 16], file: &[u8], expired: u8, count: usize, out:
     while k < end {
         if is_piece(u, file.len(), out.len() - at) {
             let n = put_piece(u, file, &mut out[at..]);
-            u = piece_held(u, n);
+            u = piece_held(u, file, n);
         } else {
             let x = if k == 0 { expired } else { 0 };
             let d = stepped(u, file, x, &mut out[at..]);

@@ -1,14 +1,16 @@
-// The steps of a burst that are made in place: a data PDU of the first pass or of a repair, with as many bytes as a PDU may carry and more to follow. It moves one number
-// and the report, and is never refused: any other step is left to `tsendrivaty_step`.
+// The steps of a burst that are made in place: a data PDU of the first pass or of a repair, with as many bytes as a PDU may carry and more to follow. It moves the start of what
+// is left, the checksum of the first pass and the report, and is never refused: any other step is left to `tsendrivaty_step`.
 ghost use mathlib.Core.Path.{_≡_};
 ghost use mathlib.Core.Bool.{true};
+ghost use Prim.Native.Nat.{_+_, _≤_};
 ghost use lib.ListN.{length};
 ghost use Rattle.basis.specs.Laid.{inFront};
-ghost use Rattle.seam.specs.Pieces.{requestDue, serves, hasMore, hasRoom, isPiece, pieceBytes, pieceReport, pieceHeld};
+ghost use Rattle.seam.specs.Pieces.{requestDue, serves, hasMore, hasRoom, isPiece, pieceBytes, pieceReport, advanced, pieceHeld};
 use crate::taken;
 use seam_rules::memory::Handler;
 use seam_rules::memory::Report;
 use seam_rules::memory::Transaction;
+use types::FileParams;
 use types::FinishedParams;
 use types::SegmentRequest;
 
@@ -118,10 +120,24 @@ fn piece_report(t: Transaction, n: usize) -> Report
     }
 }
 
+// The first pass past a piece: only the bytes of the piece are read.
+fn advanced(t: Transaction, f: FileParams, file: &[u8]) -> FileParams
+    requires { ⌜ f .progress + t .segment ≤ length (now file) ⌝ }
+    ensures { λ r. ⌜ r ≡ advanced t (now (file .entry)) f ⌝ }
+{
+    let a = f.progress as usize;
+    let e = a + (t.segment as usize);
+    let sum = checksum::sum_on(t.checksum, f.sum, f.progress, &file[a..e]);
+    FileParams {
+        progress: f.progress + t.segment,
+        sum: sum,
+    }
+}
+
 // The memory after it: the request's start moves past the bytes sent.
-pub fn piece_held(h: Handler, n: usize) -> Handler
-    requires { ⌜ hasMore (h .transaction .segment) (requestDue h) (h .transaction .size) ≡ true ⌝ }
-    ensures { λ r. ⌜ r ≡ pieceHeld h n ⌝ }
+pub fn piece_held(h: Handler, file: &[u8], n: usize) -> Handler
+    requires { ⌜ (hasMore (h .transaction .segment) (requestDue h) (h .transaction .size) ≡ true) × (length (now file) ≡ h .transaction .size) ⌝ }
+    ensures { λ r. ⌜ r ≡ pieceHeld h (now (file .entry)) n ⌝ }
 {
     let report = piece_report(h.transaction, n);
     let mut u = h;
@@ -135,8 +151,8 @@ pub fn piece_held(h: Handler, n: usize) -> Handler
         };
         u.queue = q;
     } else {
-        let progress = h.file.progress + h.transaction.segment;
-        u.file.progress = progress;
+        let f = advanced(h.transaction, h.file, file);
+        u.file = f;
     }
     u
 }

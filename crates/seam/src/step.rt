@@ -56,7 +56,7 @@ fn made(s: State, o: Outcome) -> Told
         events: events,
         state: s,
     });
-    let t = source_step::after::after_of(s, o.eof, d);
+    let t = source_step::after::after_of(s, o.sum, d);
     let light = light_of(s.fixed, t, report);
     let bulk = source_step::bulk::bulk_of(s, d);
     let kept = source_step::bulk::is_kept(bulk);

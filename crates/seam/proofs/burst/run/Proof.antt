@@ -11,7 +11,7 @@ use borrow.Rule.Slice.PartMut.{midOf}
 use Rattle.rules.specs.Step.{stepSpec, stepBytes}
 use Rattle.seam_rules.specs.Memory.{stateOf}
 use Rattle.source_step.proofs.Bursting.{part-rest}
-use Rattle.seam.proofs.Pieces.{piece-more}
+use Rattle.seam.proofs.Pieces.{piece-more, piece-whole}
 use Rattle.seam.proofs.Running.{Turned, nextFlag, Runs, starts, room-told, again-quiet, again-more, again-refused, flag-first, flag-later, gives-step, gives-piece, ends}
 use Rattle.seam.proofs.burst.run.Statement.{statement}
 use Rattle.seam.proofs.burst.run.Tie as tie
@@ -54,7 +54,8 @@ put-piece-requires c κs =
 
 piece-held-requires : tie.Need-piece-held-requires Inv-loop μ-loop
 piece-held-requires c κs =
-    piece-more _ _ _ (sym (c .before .before .before .before .before .is-piece .ensures) ∙ c .before .before .before .before .if1 .taken)
+    let p = sym (c .before .before .before .before .before .is-piece .ensures) ∙ c .before .before .before .before .if1 .taken in
+    (piece-more _ _ _ p, piece-whole _ _ _ p)
 
 sub-stepped : tie.Need-sub-stepped Inv-loop μ-loop
 sub-stepped c = search needs
