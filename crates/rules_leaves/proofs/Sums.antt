@@ -44,7 +44,7 @@ word-bytes : (sum a b c d : ℕ) → more sum (word a b c d) ≡ more (more (mor
 unfolding atPlace
 word-bytes sum a b c d = simp more-more (ap (more sum) (omega arith))
 
-by-bytes : (sum : ℕ) (s : List ℕ) → modularFrom sum s ≡ modularAt sum 0 s
+pub by-bytes : (sum : ℕ) (s : List ℕ) → modularFrom sum s ≡ modularAt sum 0 s
 unfolding atPlace
 by-bytes sum [] = refl
 by-bytes sum (a ∷ []) = ap (more sum) (omega arith)
@@ -53,7 +53,7 @@ by-bytes sum (a ∷ b ∷ c ∷ []) = simp more-more (ap (more sum) (omega arith
 by-bytes sum (a ∷ b ∷ c ∷ d ∷ s) =
     by-bytes (more sum (word a b c d)) s ∙ sym (places 0 1 (more sum (word a b c d)) s) ∙ ap (λ (v : ℕ). modularAt v 4 s) (word-bytes sum a b c d)
 
-at-append : (sum k : ℕ) (a b : List ℕ) → modularAt sum k (a ++ b) ≡ modularAt (modularAt sum k a) (k + length a) b
+pub at-append : (sum k : ℕ) (a b : List ℕ) → modularAt sum k (a ++ b) ≡ modularAt (modularAt sum k a) (k + length a) b
 at-append sum k [] b = rw add-zero
 at-append sum k (x ∷ a) b =
     at-append (more sum (atPlace k x)) (suc k) a b
