@@ -9,7 +9,7 @@ use crate::tables::EIGHTS_32C;
 use types::Checksum;
 ghost use mathlib.Core.Path.{_≡_};
 ghost use lib.ListN.{take};
-ghost use Rattle.rules_leaves.specs.Checksum.{word, modularFrom, modular, atPlace, modularAt, reversed, crc32On, castagnoli, ethernet, checksumOf, sumOf, sumOn, crc16};
+ghost use Rattle.rules_leaves.specs.Checksum.{word, modularFrom, modular, atPlace, modularAt, reversed, crc32On, castagnoli, ethernet, checksumOf, sumOn, crc16};
 ghost use Rattle.checksum.specs.Tables.{tableFrom, eights};
 
 // ---- type 0: the modular checksum
@@ -150,16 +150,6 @@ pub fn calculate_checksum(kind: u8, file: &[u8], n: usize) -> Checksum
         return checksum_of(kind, &file[..n]);
     }
     checksum_of(kind, file)
-}
-
-// The number that an EOF carries for them; 0 where the type has none.
-pub fn sum_of(kind: u8, file: &[u8], n: usize) -> u32
-    ensures { λ r. ⌜ r ≡ sumOf kind (take n (now (file .entry))) ⌝ }
-{
-    match calculate_checksum(kind, file, n) {
-        Checksum::Is(sum) => sum,
-        Checksum::UnknownType => 0,
-    }
 }
 
 // A number goes on over more bytes: sum is that of the n bytes before these.
