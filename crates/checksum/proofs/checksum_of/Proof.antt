@@ -2,6 +2,7 @@
 -- Assumes nothing.
 use borrow.Author.Tests.{ne-eqb}
 use Rattle.rules_leaves.specs.Checksum.{checksumOf}
+use Rattle.rules_leaves.proofs.Sums.{crc32-whole}
 use borrow.Author.Needs.{needs}
 use Rattle.checksum.proofs.checksum_of.Statement.{statement}
 use Rattle.checksum.proofs.checksum_of.Tie as tie
@@ -21,11 +22,11 @@ returns c = simp (c .before .match .keys1, c .calc-modular-checksum .ensures)
 
 returns-2 : tie.Need-returns-2
 unfolding checksumOf
-returns-2 c = simp (c .before .match .keys2, c .crc32-castagnoli .ensures)
+returns-2 c = simp (c .before .match .keys2, c .crc32-castagnoli .ensures, crc32-whole)
 
 returns-3 : tie.Need-returns-3
 unfolding checksumOf
-returns-3 c = simp (c .before .match .keys3, c .crc32-ethernet .ensures)
+returns-3 c = simp (c .before .match .keys3, c .crc32-ethernet .ensures, crc32-whole)
 
 returns-4 : tie.Need-returns-4
 unfolding checksumOf

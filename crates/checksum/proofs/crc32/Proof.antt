@@ -12,7 +12,7 @@ by-table-requires c κs = search needs
 
 returns : tie.Need-returns
 returns c = let b = c .before .before in
-    rw (c .by-table .ensures, b .pre, table-crc (b .args .p) _ (b .args .s .now)) (crc32-reversed _ _ (omega arith))
+    rw (c .by-table .ensures, b .pre, table-crc (b .args .p) _ (b .args .s .now)) (crc32-reversed _ _ _ (omega arith))
 
 pub crc32-spec : {M : Type 1} → statement M
 crc32-spec = tie.close (tie.spec by-table-requires returns)
