@@ -1,5 +1,5 @@
 // The checksums of filestore.rs over bytes that are lent, and the CRC-16 that closes a PDU: each equal to its definition in `rules_leaves`.
-// They are total: any type, any bytes, any number of bytes asked for.
+// They are total: any type, any bytes, any number of bytes asked for. A finished number goes on over more bytes (sum_on).
 // After cfdp-rs 0.3.0, src/filestore.rs (Apache-2.0); changed, see NOTICE.
 mod tables;
 
@@ -8,45 +8,11 @@ use crate::tables::EIGHTS_32;
 use crate::tables::EIGHTS_32C;
 use types::Checksum;
 ghost use mathlib.Core.Path.{_≡_};
-ghost use Prim.Native.Nat.{_+_, _<_};
-ghost use lib.ListN.{length, take, getD};
-ghost use Rattle.rules_leaves.specs.Checksum.{word, modular, atPlace, modularAt, reversed, crc32On, castagnoli, ethernet, checksumOf, sumOf, sumOn, crc16};
+ghost use lib.ListN.{take};
+ghost use Rattle.rules_leaves.specs.Checksum.{word, modularFrom, modular, atPlace, modularAt, reversed, crc32On, castagnoli, ethernet, checksumOf, sumOn, crc16};
 ghost use Rattle.checksum.specs.Tables.{tableFrom, eights};
 
 // ---- type 0: the modular checksum
-
-// The byte at a place, and 0 past the end: the last word's padding.
-fn byte_at(s: &[u8], i: usize) -> u32
-    ensures { λ r. ⌜ (r ≡ getD (now (s .entry)) i 0) × (r < 256) ⌝ }
-{
-    if i < s.len() {
-        return s[i] as u32;
-    }
-    0
-}
-
-fn word_at(s: &[u8], i: usize) -> u32
-    requires { ⌜ i < length (now s) ⌝ }
-    ensures { λ r. ⌜ r ≡ word (getD (now (s .entry)) i 0) (getD (now (s .entry)) (i + 1) 0) (getD (now (s .entry)) (i + 2) 0) (getD (now (s .entry)) (i + 3) 0) ⌝ }
-{
-    let a = byte_at(s, i);
-    let b = byte_at(s, i + 1);
-    let c = byte_at(s, i + 2);
-    let d = byte_at(s, i + 3);
-    a * 16777216 + b * 65536 + c * 256 + d
-}
-
-pub fn calc_modular_checksum(s: &[u8]) -> u32
-    ensures { λ r. ⌜ r ≡ modular (now (s .entry)) ⌝ }
-{
-    let mut sum: u32 = 0;
-    let mut i = 0;
-    while i < s.len() {
-        sum = std::num::wrapping_add_u32(sum, word_at(s, i));
-        i += 4;
-    }
-    sum
-}
 
 // What a byte adds at a place of its word.
 fn at_place(k: u64, b: u8) -> u32
@@ -74,6 +40,44 @@ fn modular_bytes(start: u32, n: u64, s: &[u8]) -> u32
         i += 1;
     }
     sum
+}
+
+fn word(a: u8, b: u8, c: u8, d: u8) -> u32
+    ensures { λ r. ⌜ r ≡ word a b c d ⌝ }
+{
+    (a as u32) * 16777216 + (b as u32) * 65536 + (c as u32) * 256 + (d as u32)
+}
+
+// From the sum of whole words before these: a word at a time, the bytes behind the last whole one by themselves.
+fn modular_from(start: u32, s: &[u8]) -> u32
+    ensures { λ r. ⌜ r ≡ modularFrom start (now (s .entry)) ⌝ }
+{
+    let mut sum = start;
+    let mut i = 0;
+    let end = s.len() / 4 * 4;
+    while i < end {
+        sum = std::num::wrapping_add_u32(sum, word(s[i], s[i + 1], s[i + 2], s[i + 3]));
+        i += 4;
+    }
+    modular_bytes(sum, 0, &s[i..])
+}
+
+// From the sum of the n bytes before these: the word that they leave begun is ended first.
+fn modular_on(sum: u32, n: u64, s: &[u8]) -> u32
+    ensures { λ r. ⌜ r ≡ modularAt sum n (now (s .entry)) ⌝ }
+{
+    let wanted = ((4 - n % 4) % 4) as usize;
+    if s.len() < wanted {
+        return modular_bytes(sum, n, s);
+    }
+    let ended = modular_bytes(sum, n, &s[..wanted]);
+    modular_from(ended, &s[wanted..])
+}
+
+pub fn calc_modular_checksum(s: &[u8]) -> u32
+    ensures { λ r. ⌜ r ≡ modular (now (s .entry)) ⌝ }
+{
+    modular_from(0, s)
 }
 
 // ---- the CRCs, a byte at a time by a table
@@ -148,22 +152,12 @@ pub fn calculate_checksum(kind: u8, file: &[u8], n: usize) -> Checksum
     checksum_of(kind, file)
 }
 
-// The number that an EOF carries for them; 0 where the type has none.
-pub fn sum_of(kind: u8, file: &[u8], n: usize) -> u32
-    ensures { λ r. ⌜ r ≡ sumOf kind (take n (now (file .entry))) ⌝ }
-{
-    match calculate_checksum(kind, file, n) {
-        Checksum::Is(sum) => sum,
-        Checksum::UnknownType => 0,
-    }
-}
-
 // A number goes on over more bytes: sum is that of the n bytes before these.
 pub fn sum_on(kind: u8, sum: u32, n: u64, s: &[u8]) -> u32
     ensures { λ r. ⌜ r ≡ sumOn kind sum n (now (s .entry)) ⌝ }
 {
     match kind {
-        0 => modular_bytes(sum, n, s),
+        0 => modular_on(sum, n, s),
         2 => crc32_castagnoli(sum, s),
         3 => crc32_ethernet(sum, s),
         _ => 0,

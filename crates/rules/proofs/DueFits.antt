@@ -32,19 +32,19 @@ Small L (FileData o n) = n ≤ L
 Small L (EofPdu e) = Unit {0}
 Small L (AckFinished c) = Unit {0}
 
-small : (s : State) (file : List ℕ) (d : Due) → Small (s .fixed .segment) (sendingOf s d)
+small : (s : State) (d : Due) → Small (s .fixed .segment) (sendingOf s d)
 unfolding repairOf closing
-small s file CancelEof = tt
-small s file Repair = cases (Small (s .fixed .segment)) (isMetadata (oldest (s .queue))) MetadataPdu _ (λ _. tt) (λ _. omega arith)
-small s file Metadata = tt
-small s file Data = omega arith
-small s file NoErrorEof = tt
-small s file EofAgain = tt
-small s file (FaultCancel c) = tt
-small s file (FaultIgnore c) = tt
-small s file (FaultAbandon c) = tt
-small s file Close = cases (Small (s .fixed .segment)) (s .fixed .head .unacknowledged) NoPdu _ (λ _. tt) (λ _. tt)
-small s file Nothing = tt
+small s CancelEof = tt
+small s Repair = cases (Small (s .fixed .segment)) (isMetadata (oldest (s .queue))) MetadataPdu _ (λ _. tt) (λ _. omega arith)
+small s Metadata = tt
+small s Data = omega arith
+small s NoErrorEof = tt
+small s EofAgain = tt
+small s (FaultCancel c) = tt
+small s (FaultIgnore c) = tt
+small s (FaultAbandon c) = tt
+small s Close = cases (Small (s .fixed .segment)) (s .fixed .head .unacknowledged) NoPdu _ (λ _. tt) (λ _. tt)
+small s Nothing = tt
 
 name-some : (array : List ℕ) (n : ℕ) → GoodName array n → 1 ≤ length (take n array)
 name-some array n g =
@@ -83,7 +83,7 @@ module _ (s : State) (file : List ℕ) (u : Under s) where
   fits (AckFinished c) _ = let r = room in rw (length-encode h (ackFinished c 1)) (omega arith)
 
   due-under : (expired : Bool) → length (bytesDue s file expired) ≤ 4096
-  due-under expired = fits (sendingOf s (dueOf s expired)) (small s file (dueOf s expired))
+  due-under expired = fits (sendingOf s (dueOf s expired)) (small s (dueOf s expired))
 
 -- in Idle nothing is due
 due-idle : (n : TransactionSeqNum) (file : List ℕ) (expired : Bool) → length (bytesDue (idle n) file expired) ≤ 4096

@@ -9,7 +9,7 @@ use native.Mathlib.Omega.{arith}
 use borrow.Author.Tests.{eqb-true, eqb-false, leb-false, ltb-true}
 use lib.Dec.{eqb, leb, ltb}
 use lib.ListN.{length, take, drop}
-use Rattle.basis.specs.Pick.{pick, _and_, not}
+use Rattle.basis.specs.Pick.{_and_, not}
 use Rattle.basis.specs.Bytes.{Bytes}
 use Rattle.basis.proofs.Pick.{both, cases}
 use Rattle.basis.proofs.Bytes.{bytes-take, bytes-drop}

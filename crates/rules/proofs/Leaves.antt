@@ -9,7 +9,6 @@ use Prim.Native.Nat.{ℕ, _+_, _-_, _<_}
 use native.Mathlib.Omega.{arith}
 use borrow.Author.Tests.{eqb-true, eqb-false, le-leb, lt-leb}
 use lib.Dec.{eqb}
-use lib.ListN.{length}
 use Rattle.basis.specs.Pick.{pick}
 use Rattle.rules_pdu.specs.Layout.{eof}
 use Rattle.basis.proofs.Pick.{cases}

@@ -2,7 +2,7 @@
 -- Assumes nothing.
 use mathlib.Core.Path.{_≡_, refl, sym, ap, subst, _∙_}
 use mathlib.Core.Logic.{_↔_, _⊎_, inl, inr, ⊎-elim}
-use mathlib.Core.Bool.{Bool, true, false, true≢false, false≢true}
+use mathlib.Core.Bool.{Bool, true, false, false≢true}
 use mathlib.Core.List.{List, [], _∷_, _++_}
 use mathlib.Core.Option.{Option, none, some}
 use Prim.Native.Nat.{ℕ, _+_, _-_, _*_, _^_, _<_, _≤_, min}
@@ -10,26 +10,22 @@ use native.Mathlib.Omega.{arith}
 use borrow.Author.Tests.{eqb-true, ltb-true, ltb-false}
 use lib.Dec.{eqb, ltb}
 use lib.ListN.{length, take, drop, length-take}
-use lib.Seq.{take-all}
-use Rattle.basis.specs.Pick.{pick, _and_, _or_, not}
+use Rattle.basis.specs.Pick.{pick, _and_, _or_}
 use Rattle.basis.specs.Bytes.{Bytes}
 use Rattle.basis.specs.Laid.{inFront}
-use Rattle.basis.proofs.Pick.{granted, cases, flag-lt}
-use Rattle.basis.proofs.Bytes.{bytes-take}
+use Rattle.basis.proofs.Pick.{cases, flag-lt}
 use Rattle.basis.proofs.Laid.{front, in-front, taken}
-use Rattle.rules_leaves.specs.Checksum.{sumOf}
-use Rattle.rules_leaves.proofs.Sums.{sum-lt}
 use Rattle.rules_pdu.specs.Numbers.{F, C}
-use Rattle.rules_pdu.specs.Layout.{Said, eof, ackFinished, encode}
+use Rattle.rules_pdu.specs.Layout.{Said, ackFinished, encode}
 use Rattle.rules_pdu.specs.Reading.{wellFramed, reserved}
 use Rattle.rules_pdu.specs.Decoding.{withHead, decode}
 use Rattle.rules_pdu.specs.PduLaws.{Fit, Sayable}
 use Rattle.rules_pdu.proofs.Round.{round-trip, size-fits}
 use Rattle.rules.specs.States.{idle}
 use Rattle.rules.specs.Queues.{pending, isMetadata, owes, oldest, pop}
-use Rattle.rules.specs.Step.{dueOf, eofFor, repairOf, closing, closureBit, sendingOf, bytesFor, bytesDue, eventsOf, afterOf, changed, performed, stepSpec, stepBytes}
+use Rattle.rules.specs.Step.{dueOf, repairOf, closing, closureBit, sendingOf, bytesFor, bytesDue, eventsOf, afterOf, changed, performed, stepSpec, stepBytes}
 use Rattle.rules.specs.Good.{AllOwe, GoodQueue, GoodName, Under, At, Good}
-use Rattle.rules.specs.Says.{bytesOf, NoneOwed, Declared, cancels, ignores, abandons, once-cancelled, Applies, item-1, item-2, item-3, item-4, item-5, item-6-again, item-6-fault, item-7, item-8, item-9, eofOfSent, itsMetadata, bytesAt, answerTo, named, pduOf, DueSays, IsEof, StepEmits}
+use Rattle.rules.specs.Says.{bytesOf, Declared, cancels, ignores, abandons, once-cancelled, Applies, item-1, item-2, item-3, item-4, item-5, item-6-again, item-6-fault, item-7, item-8, item-9, eofOfSent, itsMetadata, bytesAt, answerTo, named, pduOf, DueSays, IsEof, StepEmits}
 use Rattle.types.specs.declared.Head.{Head}
 use Rattle.types.specs.declared.SegmentRequest.{SegmentRequest}
 use Rattle.types.specs.declared.State.{State}

@@ -3,16 +3,16 @@
 -- Assumes nothing.
 use mathlib.Core.Path.{_≡_, refl, sym, ap, subst, _∙_}
 use mathlib.Core.Logic.{_⊎_, inl, inr}
-use mathlib.Core.Bool.{Bool, true, false, true≢false, false≢true}
+use mathlib.Core.Bool.{Bool, true, false, false≢true}
 use mathlib.Core.List.{List, [], _∷_, _++_}
 use mathlib.Core.Option.{Option, none, some}
-use Prim.Native.Nat.{ℕ, zero, suc, _+_, _-_, _^_, _≤_, _<_}
+use Prim.Native.Nat.{ℕ, zero, suc, _+_, _≤_, _<_}
 use native.Mathlib.Omega.{arith}
-use lib.Dec.{eqb, ltb}
+use lib.Dec.{eqb}
 use lib.ListN.{length, take, drop, length-append, length-take, length-drop}
 use lib.Seq.{take-all}
 use borrow.Author.Tests.{ltb-true, ne-eqb, eq-eqb}
-use Rattle.basis.specs.Pick.{pick, _and_, _or_, not}
+use Rattle.basis.specs.Pick.{_and_}
 use Rattle.basis.specs.Bytes.{Bytes, byte}
 use Rattle.basis.proofs.Pick.{cases}
 use Rattle.rules_leaves.specs.Checksum.{sumOf, sumOn}
@@ -27,9 +27,9 @@ use Rattle.rules.specs.Queues.{isMetadata, owes, pending}
 use Rattle.rules.specs.Put.{started, putAnswer, putState, putSpec}
 use Rattle.rules.specs.Refusals.{answerNo, byAnswer}
 use Rattle.rules.specs.Deliver.{byVerdict, verdictOf, asked, deliverSpec}
-use Rattle.rules.specs.Step.{eofOwed, dueOf, nextLength, sumBehind, awaiting, onward, faultMarked, afterCancelEof, afterMetadata, afterData, afterEof, afterOf, sendingOf, bytesFor, changed, performed, stepSpec, stepBytes}
+use Rattle.rules.specs.Step.{eofOwed, dueOf, nextLength, sumBehind, faultMarked, afterCancelEof, afterMetadata, afterData, afterEof, afterOf, sendingOf, bytesFor, performed, stepSpec, stepBytes}
 use Rattle.rules.specs.Cancel.{resetSpec, newSpec}
-use Rattle.rules.specs.Runs.{Single, put, deliver, step, cancel, reset, Call, Shown, turned, began, took, went, ended, after, unless, pduIn, shows, trace, behind, All, Lends, LendsIn, NoPut}
+use Rattle.rules.specs.Runs.{Single, put, deliver, step, cancel, reset, Call, Shown, turned, began, took, went, ended, after, unless, pduIn, shows, trace, behind, All, LendsIn, NoPut}
 use Rattle.rules.specs.Good.{AllOwe, Under, At, Good, ProperSingle, Proper}
 use Rattle.rules.specs.Says.{Declared, cancels, ignores, abandons, once-cancelled, Applies, item-1, item-2, item-3, item-4, item-5, item-6-again, item-6-fault, item-7, item-8, item-9, eofOfSent, itsMetadata, answerTo, named, bytesOf, pduOf, IsEof}
 use Rattle.rules.specs.Sums.{joined, firstBytes, sentIn, SumKept, SumOfTheSent, eofOver, namedBefore, SameLink, SameStep, EofReadsNothing}

@@ -1,5 +1,5 @@
 -- Request R-2, "Keep the running checksum of the first-pass bytes": of which bytes the stored number is, that nothing changes on the link while the same file is lent,
--- and that a step reads no byte of the file but those that it sends. Proof: proofs/Sums.antt.
+-- and that a step reads no byte of the file but those that it sends. Proofs: proofs/Sums.antt, Joined.antt.
 -- Assumes nothing.
 use mathlib.Core.Path.{_≡_}
 use mathlib.Core.Bool.{Bool, true}
@@ -16,7 +16,8 @@ use Rattle.rules_pdu.specs.Decoding.{decode, isEofIn, fileDataOf}
 use Rattle.rules.specs.Put.{putSpec}
 use Rattle.rules.specs.Step.{dueOf, sendingOf, stepSpec, stepBytes}
 use Rattle.rules.specs.Cancel.{newSpec}
-use Rattle.rules.specs.Runs.{Call, Shown, turned, began, took, went, ended, trace, behind, Lends, NoPut}
+use Rattle.rules.specs.Runs.{Call, Shown, turned, began, took, went, ended, trace, behind, Lends, firstPass, NoPut, BeforeEof}
+use Rattle.rules.specs.Demand.{transferOf, Tiled}
 use Rattle.rules.specs.Good.{Good, Proper}
 use Rattle.rules.specs.Says.{named, bytesOf, pduOf, IsEof}
 use Rattle.types.specs.declared.TransactionSeqNum.{TransactionSeqNum}
@@ -46,9 +47,22 @@ firstBytes bs (went none ∷ es) = firstBytes bs es
 firstBytes bs (went (some pdu) ∷ es) = firstBytes (joined bs (fileDataOf pdu)) es
 firstBytes bs (ended ∷ es) = firstBytes bs es
 
--- of all that a run on a new handler has shown: the first-pass file data since the last accepted put
+-- of all that a run has shown: the first-pass file data since the last accepted put
 abbrev pub sentIn : List Shown → List ℕ
 sentIn es = firstBytes [] es
+
+-- PROMISE first-joined: so joined, they are the third demand's first pass: after an accepted put, before the first EOF, the data of the PDUs that are not owed to a NAK, each
+-- piece behind the one before.
+abbrev pub FirstJoined : Type 0
+FirstJoined =
+    (h : State) (c : LocalEntityConfig) (q : PutRequest) (source destination file : List ℕ)
+    → Bytes file → length file < 2 ^ 64
+    → putSpec h c q source destination (length file) .answer ≡ Accepted
+    → (cs : List Call) → Lends file cs
+    → let s = putSpec h c q source destination (length file) .state in
+    let w = transferOf c q (h .number) source destination file in
+    BeforeEof (trace cs s)
+    → Tiled 0 (firstPass (w .segment) (trace cs s)) (sentIn (trace cs s))
 
 -- ---- the stored number
 

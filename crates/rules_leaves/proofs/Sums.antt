@@ -12,7 +12,7 @@ use lib.ListN.{length}
 use Rattle.basis.specs.Pick.{pick}
 use Rattle.basis.specs.Bytes.{Bytes}
 use Rattle.basis.proofs.Pick.{cases}
-use Rattle.types.specs.declared.Checksum.the-variants.{Is, UnknownType}
+use Rattle.types.specs.declared.Checksum.{Checksum}
 use Rattle.rules_leaves.specs.Checksum.{word, more, modularFrom, modular, atPlace, modularAt, reversed, crcBit, crcBits, crcByte, crcFrom, crc32, castagnoli, ethernet, checksumOf, sumIn, sumOf, crc16Bit, crc16Bits, crc16Byte, crc16From, crc16, Piecewise, crc32On, sumOn, GoesOn}
 use Rattle.rules_leaves.proofs.Xor.{xor-back}
 
@@ -44,7 +44,7 @@ word-bytes : (sum a b c d : ℕ) → more sum (word a b c d) ≡ more (more (mor
 unfolding atPlace
 word-bytes sum a b c d = simp more-more (ap (more sum) (omega arith))
 
-by-bytes : (sum : ℕ) (s : List ℕ) → modularFrom sum s ≡ modularAt sum 0 s
+pub by-bytes : (sum : ℕ) (s : List ℕ) → modularFrom sum s ≡ modularAt sum 0 s
 unfolding atPlace
 by-bytes sum [] = refl
 by-bytes sum (a ∷ []) = ap (more sum) (omega arith)
@@ -53,7 +53,7 @@ by-bytes sum (a ∷ b ∷ c ∷ []) = simp more-more (ap (more sum) (omega arith
 by-bytes sum (a ∷ b ∷ c ∷ d ∷ s) =
     by-bytes (more sum (word a b c d)) s ∙ sym (places 0 1 (more sum (word a b c d)) s) ∙ ap (λ (v : ℕ). modularAt v 4 s) (word-bytes sum a b c d)
 
-at-append : (sum k : ℕ) (a b : List ℕ) → modularAt sum k (a ++ b) ≡ modularAt (modularAt sum k a) (k + length a) b
+pub at-append : (sum k : ℕ) (a b : List ℕ) → modularAt sum k (a ++ b) ≡ modularAt (modularAt sum k a) (k + length a) b
 at-append sum k [] b = rw add-zero
 at-append sum k (x ∷ a) b =
     at-append (more sum (atPlace k x)) (suc k) a b
@@ -76,39 +76,38 @@ piecewise = (modular-append, places, crc-append, crc16-append)
 
 -- ---- a finished number goes on
 
+pub crc32-whole : (polynomial : ℕ) (s : List ℕ) → crc32On polynomial 0 s ≡ crc32 polynomial s
+unfolding crc32 crc32On
+crc32-whole polynomial s = refl
+
 crc32-append : (polynomial : ℕ) (a b : List ℕ) → crc32 polynomial (a ++ b) ≡ crc32On polynomial (crc32 polynomial a) b
 unfolding crc32 crc32On
 crc32-append polynomial a b =
     let p = reversed 32 polynomial 0 in
     rw (xor-back (crcFrom p 0xFFFFFFFF a) 0xFFFFFFFF, crc-append p 0xFFFFFFFF a b)
 
-pub crc32-whole : (polynomial : ℕ) (s : List ℕ) → crc32On polynomial 0 s ≡ crc32 polynomial s
-unfolding crc32 crc32On
-crc32-whole polynomial s = refl
+-- by the tests of the type
+no-bytes : (type : ℕ) → sumOf type [] ≡ 0
+unfolding sumOf checksumOf modular crc32
+no-bytes type =
+    let P : Checksum → Type 0 = λ (x : Checksum). sumIn x ≡ 0 in
+    cases P (eqb type 0) _ _ (λ e. refl)
+    (λ e. cases P (eqb type 2) _ _ (λ e. refl) (λ e. cases P (eqb type 3) _ _ (λ e. refl) (λ e. cases P (eqb type 15) _ _ (λ e. refl) (λ e. refl))))
 
--- by what the tests of the type say
-abbrev numbered : Bool → Bool → Bool → Bool → List ℕ → ℕ
-numbered t₀ t₂ t₃ t₁₅ s = sumIn (pick t₀ (Is (modular s)) (pick t₂ (Is (crc32 castagnoli s)) (pick t₃ (Is (crc32 ethernet s)) (pick t₁₅ (Is 0) UnknownType))))
+either : {P : Type 0} (t : Bool) → (t ≡ true → P) → (t ≡ false → P) → P
+either true p q = p refl
+either false p q = q refl
 
-no-bytes : (t₀ t₂ t₃ t₁₅ : Bool) → numbered t₀ t₂ t₃ t₁₅ [] ≡ 0
-unfolding modular crc32
-no-bytes true t₂ t₃ t₁₅ = refl
-no-bytes false true t₃ t₁₅ = refl
-no-bytes false false true t₁₅ = refl
-no-bytes false false false true = refl
-no-bytes false false false false = refl
-
-more-bytes : (t₀ t₂ t₃ t₁₅ : Bool) (a b : List ℕ) → let sum = numbered t₀ t₂ t₃ t₁₅ a in
-    numbered t₀ t₂ t₃ t₁₅ (a ++ b) ≡ pick t₀ (modularAt sum (length a) b) (pick t₂ (crc32On castagnoli sum b) (pick t₃ (crc32On ethernet sum b) 0))
-more-bytes true t₂ t₃ t₁₅ a b = modular-append a b
-more-bytes false true t₃ t₁₅ a b = crc32-append castagnoli a b
-more-bytes false false true t₁₅ a b = crc32-append ethernet a b
-more-bytes false false false true a b = refl
-more-bytes false false false false a b = refl
+more-bytes : (type : ℕ) (a b : List ℕ) → sumOf type (a ++ b) ≡ sumOn type (sumOf type a) (length a) b
+unfolding sumOf checksumOf sumOn
+more-bytes type a b =
+    either (eqb type 0) (λ e₀. simp e₀ (modular-append a b))
+    (λ e₀. either (eqb type 2) (λ e₂. simp (e₀, e₂) (crc32-append castagnoli a b))
+    (λ e₂. either (eqb type 3) (λ e₃. simp (e₀, e₂, e₃) (crc32-append ethernet a b))
+    (λ e₃. either (eqb type 15) (λ e₁₅. simp (e₀, e₂, e₃, e₁₅)) (λ e₁₅. simp (e₀, e₂, e₃, e₁₅)))))
 
 pub goes-on : GoesOn
-unfolding sumOf checksumOf sumOn
-goes-on = (λ type. no-bytes (eqb type 0) (eqb type 2) (eqb type 3) (eqb type 15), λ type. more-bytes (eqb type 0) (eqb type 2) (eqb type 3) (eqb type 15))
+goes-on = (no-bytes, more-bytes)
 
 -- ---- a polynomial reversed twice is itself, so that code can hold it reversed
 

@@ -6,8 +6,8 @@ use borrow.Author.Needs.{needs}
 use Rattle.checksum.proofs.sum_on.Statement.{statement}
 use Rattle.checksum.proofs.sum_on.Tie as tie
 
-modular-bytes-requires : tie.Need-modular-bytes-requires
-modular-bytes-requires c κs = search needs
+modular-on-requires : tie.Need-modular-on-requires
+modular-on-requires c κs = search needs
 
 crc32-castagnoli-requires : tie.Need-crc32-castagnoli-requires
 crc32-castagnoli-requires c κs = search needs
@@ -17,7 +17,7 @@ crc32-ethernet-requires c κs = search needs
 
 returns : tie.Need-returns
 unfolding sumOn
-returns c = simp (c .before .match .keys1, c .modular-bytes .ensures)
+returns c = simp (c .before .match .keys1, c .modular-on .ensures)
 
 returns-2 : tie.Need-returns-2
 unfolding sumOn
@@ -35,7 +35,7 @@ pub sum-on-spec : {M : Type 1} → statement M
 sum-on-spec =
     tie.close
     (tie.spec
-    modular-bytes-requires
+    modular-on-requires
     crc32-castagnoli-requires
     crc32-ethernet-requires
     returns
