@@ -12,7 +12,8 @@
  *  - The report that you lend to a burst is sizeof(struct tsendrivaty_burst_report) bytes, aligned to 8, whatever is in them; it overlaps neither the
  *    handler nor a slice.
  *  - One call at a time on one handler. Different handlers know nothing of each other.
- *  - From an accepted put until the step is Idle again, lend the same file, unchanged, at every step and burst. Only its length is tested (30).
+ *  - From an accepted put until the step is Idle again, lend the same file, unchanged, at every step and burst. Only its length is tested (30). Of other bytes
+ *    of the same length each data PDU carries those lent at its own step, and the EOF the checksum of what left: the peer takes that for the file.
  *  - Expiry is a level: once the timer has run out, say `expired` at every step and burst until a report starts a timer again.
  *  - After each accepted step take report.length bytes from the front of `out` and send them, before you lend `out` again; after an accepted burst
  *    those of all its steps.
@@ -155,16 +156,10 @@ struct tsendrivaty_names {
     uint8_t destinationlen;
 };
 
-/* What the last EOF said, kept so that it can be sent again. */
-struct tsendrivaty_eof {
-    uint8_t condition;
-    uint32_t sum;
-    uint64_t size;
-};
-
+/* The first-pass bytes of the file that have left. Repairs move neither number. */
 struct tsendrivaty_file {
-    uint64_t progress;          /* first-pass bytes of the file that have left; repairs don't move it */
-    struct tsendrivaty_eof eof;
+    uint64_t progress; /* how many */
+    uint32_t sum;      /* their checksum, as an EOF carries it: every EOF takes this number, and no byte of the file */
 };
 
 /* One request of a NAK: the bytes from start up to end; (0, 0) asks for the metadata. */
@@ -321,13 +316,9 @@ TSENDRIVATY_AT(names, source, 0, 255);
 TSENDRIVATY_AT(names, sourcelen, 255, 1);
 TSENDRIVATY_AT(names, destination, 256, 255);
 TSENDRIVATY_AT(names, destinationlen, 511, 1);
-TSENDRIVATY_SIZE(eof, 16);
-TSENDRIVATY_AT(eof, condition, 0, 1);
-TSENDRIVATY_AT(eof, sum, 4, 4);
-TSENDRIVATY_AT(eof, size, 8, 8);
-TSENDRIVATY_SIZE(file, 24);
+TSENDRIVATY_SIZE(file, 16);
 TSENDRIVATY_AT(file, progress, 0, 8);
-TSENDRIVATY_AT(file, eof, 8, 16);
+TSENDRIVATY_AT(file, sum, 8, 4);
 TSENDRIVATY_SIZE(request, 16);
 TSENDRIVATY_AT(request, start, 0, 8);
 TSENDRIVATY_AT(request, end, 8, 8);
@@ -361,16 +352,16 @@ TSENDRIVATY_AT(report, timer, 57, 1);
 TSENDRIVATY_SIZE(burst_report, 1032);
 TSENDRIVATY_AT(burst_report, count, 0, 8);
 TSENDRIVATY_AT(burst_report, steps, 8, 1024);
-TSENDRIVATY_SIZE(handler, 2120);
+TSENDRIVATY_SIZE(handler, 2112);
 TSENDRIVATY_AT(handler, config, 0, 368);
 TSENDRIVATY_AT(handler, number, 368, 16);
 TSENDRIVATY_AT(handler, step, 384, 1);
 TSENDRIVATY_AT(handler, transaction, 392, 88);
 TSENDRIVATY_AT(handler, names, 480, 512);
-TSENDRIVATY_AT(handler, file, 992, 24);
-TSENDRIVATY_AT(handler, queue, 1016, 1032);
-TSENDRIVATY_AT(handler, marks, 2048, 8);
-TSENDRIVATY_AT(handler, report, 2056, 64);
+TSENDRIVATY_AT(handler, file, 992, 16);
+TSENDRIVATY_AT(handler, queue, 1008, 1032);
+TSENDRIVATY_AT(handler, marks, 2040, 8);
+TSENDRIVATY_AT(handler, report, 2048, 64);
 #ifdef __cplusplus
 TSENDRIVATY_ASSERT(alignof(struct tsendrivaty_handler) == 8, "the handler is not aligned to 8");
 TSENDRIVATY_ASSERT(alignof(struct tsendrivaty_burst_report) == 8, "the report of a burst is not aligned to 8");

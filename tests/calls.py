@@ -3,10 +3,14 @@
 A call is a tuple: ('put', Config, Request, S, source name, destination name), ('deliver', bytes), ('step', expired, lent, room),
 ('cancel', source id, number), ('reset',), ('burst', expired, count, lent, room), ('raw', bytes) for bytes that are no call. A run is a label, the first
 number, a file and calls.
+
+Two more are for the seam's hosts alone (tests/seam); crate `host` does not know them. ('lend', place): from here on files are lent from this place of the
+run's file on, so that a step can lend other bytes of the same length. ('look',): what the record holds, progress and running checksum.
 """
 from model import Entry, Handler, be
 
 ROOM = 4608     # an out buffer is not made longer
+LEND, LOOK = 64, 65      # the kinds of the two
 EVENTS = {'transaction': 1, 'eof-sent': 2, 'fault': 4, 'finished': 8, 'ack-timer': 16, 'check-timer': 32}
 
 
@@ -49,6 +53,10 @@ def call_bytes(call):
         return b'\x04' + tagged(args[0]) + tagged(args[1])
     if kind == 'burst':
         return b'\x06' + be(1, args[0]) + be(1, args[1]) + be(4, args[2]) + be(4, args[3])
+    if kind == 'lend':
+        return be(1, LEND) + be(4, args[0])
+    if kind == 'look':
+        return be(1, LOOK)
     return b'\x05' if kind == 'reset' else args[0]
 
 
@@ -59,17 +67,22 @@ def list_bytes(run):
 # ---- what the model answers: (name, value..) for each call, last ('end', status)
 
 def answers(run):
-    model, given = Handler(run.number), []
+    model, given, place = Handler(run.number), [], 0
     for call in run.calls:
         kind, args = call[0], call[1:]
         if kind == 'raw':
             # an unknown kind, or a known one cut short
             return given + [('end', 2 if args[0][0] in range(1, 7) else 1)]
         if kind == 'step':
-            refusal, pdu, events = model.step(bool(args[0]), run.file[:args[1]], min(args[2], ROOM))
+            refusal, pdu, events = model.step(bool(args[0]), run.file[place:place + args[1]], min(args[2], ROOM))
             given.append(('step', refusal, pdu, events, model.who if events else None))
         elif kind == 'burst':
-            given.append(('burst',) + model.burst(bool(args[0]), args[1], run.file[:args[2]], min(args[3], ROOM)))
+            given.append(('burst',) + model.burst(bool(args[0]), args[1], run.file[place:place + args[2]], min(args[3], ROOM)))
+        elif kind == 'lend':
+            place = args[0]
+            given.append(call)
+        elif kind == 'look':
+            given.append(call + model.look())
         else:
             given.append((kind, getattr(model, kind)(*args)))
     return given + [('end', 0)]
@@ -88,6 +101,10 @@ def answer_bytes(given):
             out += bytes([4, a[1]])
         elif a[0] == 'reset':
             out += b'\x05'
+        elif a[0] == 'lend':
+            out += be(1, LEND)
+        elif a[0] == 'look':
+            out += be(1, LOOK) + be(8, a[1]) + be(4, a[2])
         else:
             out += bytes([255, a[1]])
     return out
@@ -130,6 +147,8 @@ def answer_line(a):
         return '\n    '.join(['burst %d %d' % (a[1], len(a[2]))] + [made_line(*made) for made in a[2]])
     if a[0] == 'cancel':
         return 'cancel ' + ('yes' if a[1] else 'no')
+    if a[0] == 'look':
+        return 'look %d %08x' % a[1:]
     return 'reset' if a[0] == 'reset' else '%s %d' % a
 
 
@@ -150,4 +169,6 @@ def call_line(call):
         return 'burst expired %d count %d lent %d room %d' % args
     if kind == 'cancel':
         return 'cancel %d:%d %d:%d' % (args[0] + args[1])
-    return kind if kind == 'reset' else 'raw ' + shown(args[0])
+    if kind == 'lend':
+        return 'lend %d' % args
+    return 'raw ' + shown(args[0]) if kind == 'raw' else kind

@@ -4,8 +4,9 @@
     python3 tests/cost.py
 
 One run proves and builds the archive, links tests/seam/cost.c to it, and prints the table of docs/CHECKTIME.md. Instructions are the difference between two runs that
-differ in one call, counted by the kit's emulator where the kit has one, else by valgrind. Times are not taken. The Rust is cfdp-rs's own source.rs over stand-ins
-(tests/cfdp-rs/cost); where no cargo and no Rust for x86-64 can be had, it says SKIPPED.
+differ in one call, counted by the kit's emulator where the kit has one, else by valgrind. Times are not taken. An EOF step that costs more behind more pieces reads the
+file again: then the last line is FAILED, and the status 1. The Rust is cfdp-rs's own source.rs over stand-ins (tests/cfdp-rs/cost); where no cargo and no Rust for
+x86-64 can be had, it says SKIPPED.
 """
 import os, re, shutil, subprocess, sys
 
@@ -43,14 +44,28 @@ def comma(n):
 
 
 PASS = 1024 * 1024
+CHECKSUMS = {'modular': '0', 'crc32c': '2', 'crc32': '3', 'null': '15'}
+PIECES = 1, 10, 100
+
+
+def eofs(cost):
+    """Prints what an EOF costs behind so many pieces of the file; gives those rows whose numbers are not one number."""
+    grown = []
+    for name, case in (('step, EOF', 'eof'), ("step, a cancel's EOF", 'cancelled')):
+        for kind, number in CHECKSUMS.items():
+            took = [cost('%s_%d' % (case, n), number) for n in PIECES]
+            row = '%s after 1, 10, 100 pieces, %s' % (name, kind)
+            shown(row, ', '.join(map(comma, took)))
+            grown += [row] if len(set(took)) > 1 else []
+    return grown
 
 
 def seam():
-    """Prints the calls' costs; gives those of the two data steps and of the two passes."""
+    """Prints the calls' costs; gives those of the two data steps and of the two passes, and the rows of EOFs that read the file."""
     program = hosts.linked('cost', [hosts.c_object(os.path.join(HERE, 'seam', 'cost.c'), 'cost'), hosts.archive()])
 
-    def cost(case):
-        return instructions(program, case, '1') - instructions(program, case, '0')
+    def cost(case, *checksum):
+        return instructions(program, case, '1', *checksum) - instructions(program, case, '0', *checksum)
 
     copy = cost('copy')
     data, data_crc = cost('data'), cost('data_crc')
@@ -65,10 +80,15 @@ def seam():
                        ('16 PDUs with 100 bytes of one repair', '_repair'), ('16 repairs of one PDU each, 60 bytes', '_lost')):
         one, many = cost('burst' + case), cost('sixteen' + case)
         shown('burst, ' + name, '%s (sixteen calls of step: %s; %.1f percent of that)' % (comma(one), comma(many), 100 * one / many))
-    null = cost('eof_null')
-    shown('step, EOF with the null checksum', comma(null))
+    one, many = cost('burst', CHECKSUMS['crc32']), cost('sixteen', CHECKSUMS['crc32'])
+    shown('burst, 16 data PDUs of 4,096 bytes, no CRC, checksum crc32', '%s (sixteen calls of step: %s; %.1f percent of that)' % (comma(one), comma(many), 100 * one / many))
+    shown('step, EOF with the null checksum', comma(cost('eof_null')))
+    grown = eofs(cost)
+    steps = {kind: cost('data', number) for kind, number in CHECKSUMS.items()}
+    for kind, n in steps.items():
+        shown('step, data PDU of 4,096 bytes, checksum %s' % kind, '%s, %.2f a byte of file' % (comma(n), n / 4085))
     for kind in 'modular', 'crc32c', 'crc32':
-        shown('checksum %s, instructions a byte' % kind, '%.2f' % ((cost('eof_' + kind) - null) / 4000))
+        shown('checksum %s, instructions a byte' % kind, '%.2f' % ((steps[kind] - steps['null']) / 4085))
     shown('CRC-16 of a PDU, instructions a byte', '%.2f' % ((data_crc - data) / 4094))
     sizes = dict(line.split() for line in hosts.run(hosts.emulator() + [program, 'size']).strip().split('\n'))
     shown('bytes: handler', comma(int(sizes['handler'])))
@@ -83,7 +103,7 @@ def seam():
     passes = cost('pass'), cost('pass_crc')
     for name, n in zip(('no CRC', 'CRC'), passes):
         shown('a pass of 1 MiB in PDUs of 4,096 bytes, put to EOF, ' + name, comma(n))
-    return (data, data_crc), passes
+    return (data, data_crc), passes, grown
 
 
 def source_rs(steps, passes):
@@ -102,6 +122,9 @@ def source_rs(steps, passes):
 
 if __name__ == '__main__':
     try:
-        source_rs(*seam())
+        *ours, grown = seam()
+        source_rs(*ours)
+        if grown:
+            raise hosts.Failed('an EOF step that reads the file: ' + '; '.join(grown))
     except hosts.Failed as e:
         sys.exit('FAILED: %s' % e)

@@ -315,6 +315,13 @@ for entry_unack, entry_closure, unack, closure in [(0, 1, None, None), (1, 1, No
 for kind, name in [(0, 'modular'), (2, 'CRC-32C'), (3, 'CRC-32'), (15, 'null')]:
     p = Pass(f'checksum {name}, CRC on and off, cancelled and whole', file=b'123456789', packet=30, segment=6, checksum=kind)
     p.put(unack=True).step(4).put(crc=True).step(2).cancel().step()
+for kind, name, part, whole in [(0, 'modular', '66 68 33 34', '9F 68 6A 6C'), (2, 'CRC-32C', '41 35 71 86', 'E3 06 92 83'),
+                                (3, 'CRC-32', '09 72 D3 61', 'CB F4 39 26'), (15, 'null', '00 00 00 00', '00 00 00 00')]:
+    # the EOFs of the first transaction are of 123456; of the second 123 leaves, and it is reset; the EOFs of the third are of all nine
+    p = Pass(f'running checksum {name}: repairs and refused steps leave it, reset and put clear it', file=b'123456789', packet=17, segment=3, checksum=kind).put()
+    p.step(3).nak((0, 5), (0, 0)).step(want=31, room=11).step(want=30, lent=8).step(3).cancel().step(pdu='20 00 0A 00 01 07 02 04 F0 %s 00 00 00 06' % part)
+    p.step(expired=1, pdu='20 00 0A 00 01 07 02 04 F0 %s 00 00 00 06' % part).reset().put().step(2).reset().put().step(2).nak((1, 3)).burst(4, [13, 14, 14, 17]).at(EOF_ACK)
+    p.step(expired=1, pdu='20 00 0A 00 01 09 02 04 00 %s 00 00 00 09' % whole).step(expired=1, pdu='20 00 0A 00 01 09 02 04 10 %s 00 00 00 09' % whole)
 p = Pass('modular sum that wraps', file=b'\xff' * 14, segment=6).put().to(EOF_ACK)
 p = Pass('S = 0, acknowledged', file=b'').put().step().at(EOF).nak((0, 0), (0, 0)).nak((0, 1), want=24).step(3).at(EOF_ACK).nak((0, 0)).step().ack().finished().step()
 p.put(checksum=2, packet=30).step().cancel().step()

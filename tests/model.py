@@ -1,8 +1,10 @@
-"""Document 01, with document 02's burst, as a plain Python class, the independent model of the handler.
+"""Document 01, with document 02's burst and running checksum, as a plain Python class, the independent model of the handler.
 
 Written from the papers' words (and docs/DECISIONS.md where they leave a choice) with nothing taken from the crates. An id or a number is a pair
 (width, value). Each call gives what the handler's call must give: put and deliver a refusal's number or 0; step a refusal's number, the PDU and the
-events; burst a refusal's number and the steps made; cancel True or False.
+events; burst a refusal's number and the steps made; cancel True or False; look what the record must hold, the progress and the running checksum.
+
+The running checksum (R-2) is not kept here: the first-pass bytes are, as they left, and its number is taken anew over all of them.
 """
 import binascii, copy, zlib
 
@@ -198,8 +200,17 @@ class Transaction:
         self.L = min(entry.segment, entry.packet - self.header.H - self.header.F - self.header.C)
         self.actions, self.eof_event, self.finished_event = list(config.actions), config.eof_sent, config.finished
         self.S, self.names = S, (source_name, destination_name)
-        self.progress, self.queue, self.cancelled, self.owed, self.condition = 0, [], False, False, 0
-        self.count, self.last_eof, self.finished = 0, None, None
+        self.sent = b''                                     # the first-pass bytes, each from the file that was lent at its own step
+        self.queue, self.cancelled, self.owed, self.condition = [], False, False, 0
+        self.count, self.finished = 0, None
+
+    @property
+    def progress(self):
+        return len(self.sent)
+
+    @property
+    def sum(self):
+        return CHECKSUMS[self.checksum](self.sent)
 
     def metadata(self):
         closure = 0 if not self.unack else int(self.closure)
@@ -209,9 +220,8 @@ class Transaction:
     def data(self, file, start, end):
         return self.header.to_bytes(be(self.header.F, start) + file[start:end], file_data=True)
 
-    def eof(self, file, condition, size):
-        total = CHECKSUMS[self.checksum](file[:size])
-        return self.header.to_bytes(b'\x04' + be(1, condition << 4) + be(4, total) + be(self.header.F, size))
+    def eof(self, condition):
+        return self.header.to_bytes(b'\x04' + be(1, condition << 4) + be(4, self.sum) + be(self.header.F, self.progress))
 
     def ack_of_finished(self):
         return self.header.to_bytes(b'\x06\x51' + be(1, self.finished[0] << 4 | 1))
@@ -274,7 +284,7 @@ class Handler:
         elif cell == MOVE:
             t.finished, t.queue, t.owed, self.at = values, [], False, CLOSING
 
-    # -- cancel, reset
+    # -- cancel, reset, look
 
     def cancel(self, source, number):
         t = self.t
@@ -290,6 +300,10 @@ class Handler:
 
     def idle(self):
         self.at, self.t = IDLE, None
+
+    def look(self):
+        """(progress, running checksum): 0 and 0 when Idle."""
+        return (self.t.progress, self.t.sum) if self.t else (0, 0)
 
     # -- step
 
@@ -312,27 +326,28 @@ class Handler:
     def _step(self, expired, file):
         t = self.t
         if t.cancelled and t.owed:                                                      # 1
-            return self.cancel_eof(file)
+            return self.cancel_eof()
         if t.queue:                                                                     # 2
             return self.repair(file), []
         if self.at == METADATA:                                                         # 3
             self.at = EOF if t.S == 0 else DATA
             return t.metadata(), [('transaction',)]
         if self.at == DATA:                                                             # 4
-            start, t.progress = t.progress, t.progress + min(t.L, t.S - t.progress)
-            if t.progress == t.S:
+            start, end = t.progress, t.progress + min(t.L, t.S - t.progress)
+            t.sent += file[start:end]
+            if end == t.S:
                 self.at = EOF
-            return t.data(file, start, t.progress), []
+            return t.data(file, start, end), []
         if self.at == EOF:                                                              # 5
-            t.last_eof = t.eof(file, 0, t.S)
-            return t.last_eof, self.sent() + self.after_eof()
+            assert t.progress == t.S
+            return t.eof(0), self.sent() + self.after_eof()
         if self.at == EOF_ACK and expired:                                              # 6
             if t.count + 1 >= t.limit:
-                return self.fault(1, file)
+                return self.fault(1)
             t.count += 1
-            return t.last_eof, self.sent() + [('ack-timer',)]
+            return t.eof(t.condition), self.sent() + [('ack-timer',)]
         if self.at == FINISHED and t.unack and expired:                                 # 7
-            return self.fault(10, file)
+            return self.fault(10)
         if self.at == CLOSING:                                                          # 8
             pdu = b'' if t.unack else t.ack_of_finished()
             events = [('finished',) + t.finished] if t.finished_event else []
@@ -354,15 +369,14 @@ class Handler:
         self.idle()
         return [('finished', 0, 0, 3)] if t.finished_event else []
 
-    def cancel_eof(self, file):
+    def cancel_eof(self):
         t = self.t
-        t.last_eof, t.owed = t.eof(file, t.condition, t.progress), False
-        events = self.sent()
+        pdu, events, t.owed = t.eof(t.condition), self.sent(), False
         if t.unack:
             self.idle()
-            return t.last_eof, events
+            return pdu, events
         t.count, self.at = 0, EOF_ACK
-        return t.last_eof, events + [('ack-timer',)]
+        return pdu, events + [('ack-timer',)]
 
     def repair(self, file):
         t = self.t
@@ -376,7 +390,7 @@ class Handler:
             t.queue.pop(0)
         return t.data(file, start, stop)
 
-    def fault(self, condition, file):
+    def fault(self, condition):
         t = self.t
         action = 4 if t.cancelled else t.actions[condition]
         event = [('fault', action, condition, t.progress)]
@@ -387,7 +401,7 @@ class Handler:
             t.count = 0
             return b'', event
         t.cancelled, t.condition, t.queue = True, condition, []
-        pdu, events = self.cancel_eof(file)
+        pdu, events = self.cancel_eof()
         return pdu, events + event
 
     # -- burst

@@ -1,14 +1,15 @@
 #!/usr/bin/env python3
 """Runs random lists of calls through the built program `drive` and holds its answers to the model's.
 
-    python3 tests/random_passes.py N SEED [PROGRAM]
+    python3 tests/random_passes.py N SEED [PROGRAM [changes]]
 
-N lists, each of about 48,000 bytes: some sixty transactions on one handler over one file. PROGRAM is target/bin/drive if not given. The first
-difference is made small by leaving calls out, and printed in readable form; then the status is 1.
+N lists, each of about 48,000 bytes: some sixty transactions on one handler over one file. PROGRAM is target/bin/drive if not given. With `changes` other
+files of the same length are lent within a transaction, and the record is looked at; `drive` has no call for it, target/hosts/calls has (tests/link builds
+it). The first difference is made small by leaving calls out, and printed in readable form; then the status is 1.
 """
 import copy, os, platform, random, subprocess, sys
-from calls import Run, answer_bytes, answer_line, answers, call_bytes, call_line, list_bytes
-from model import IDLE, Config, Entry, Handler, Header, Request, be
+from calls import LEND, LOOK, Run, answer_bytes, answer_line, answers, call_bytes, call_line, list_bytes
+from model import CHECKSUMS, IDLE, Config, Entry, Handler, Header, Request, be
 
 ROOT = os.path.join(os.path.dirname(os.path.abspath(__file__)), '..')
 
@@ -202,6 +203,46 @@ def random_run(rng, label, budget, size=None, room=60000, bursts=False):
     return Run(label, number, file, calls)
 
 
+# ---- other files of the same length
+
+def with_changes(rng, run):
+    """The same calls over a file three times as long, of which a part is lent: in front of some calls another part than before. And looks at the record. What is lent
+    has no say in which calls are sensible, so they still are."""
+    size, often = len(run.file), rng.choice([0.02, 0.1, 0.4])
+    calls = []
+    for call in run.calls:
+        if rng.random() < often:
+            calls.append(('lend', rng.randrange(2 * size + 1)))
+        calls.append(call)
+        if rng.random() < 0.2:
+            calls.append(('look',))
+    return Run(run.label, run.number, run.file + rng.randbytes(2 * size), calls)
+
+
+def is_eof(pdu):
+    return bool(pdu) and not pdu[0] & 0x10 and pdu[4 + 2 * ((pdu[3] >> 4) % 8 + 1) + pdu[3] % 8 + 1] == 4
+
+
+def mixed_eofs(run):
+    """How many EOFs carry another checksum than the file that is lent with them would give: without such a list these would not be told apart."""
+    model, place, count = Handler(run.number), 0, 0
+    for call in run.calls:
+        kind, args, t = call[0], call[1:], model.t
+        if kind == 'lend':
+            place = args[0]
+        elif kind == 'step':
+            lent = run.file[place:place + args[1]]
+            pdus = [model.step(bool(args[0]), lent, min(args[2], 4608))[1]]
+        elif kind == 'burst':
+            lent = run.file[place:place + args[2]]
+            pdus = [pdu for pdu, _, _ in model.burst(bool(args[0]), args[1], lent, min(args[3], 4608))[1]]
+        else:
+            getattr(model, kind)(*args)
+        if kind in ('step', 'burst') and any(map(is_eof, pdus)):
+            count += t.sum != CHECKSUMS[t.checksum](lent[:t.progress])
+    return count
+
+
 # ---- the program
 
 def kit():
@@ -248,8 +289,10 @@ def records(answer):
     out, at = [], 0
     while at < len(answer):
         kind, n = answer[at], 2
-        if kind == 5:
+        if kind in (5, LEND):
             n = 1
+        if kind == LOOK:
+            n = 13
         if kind == 3:
             n = 2 + made_length(answer, at + 2)
         if kind == 6:
@@ -280,12 +323,16 @@ def show(program, run):
             return
 
 
-def compare(program, count, seed):
+def compare(program, count, seed, changes=False):
     """1 if a list differs. `program` is the words that start it."""
-    calls = puts = bursted = 0
+    calls = puts = bursted = changed = mixed = 0
     for k in range(count):
         rng = random.Random(seed * 1000003 + k)
         run = random_run(rng, '', 48000, rng.choice([5, 64, 200, 300, 300, 6000]), bursts=True)
+        if changes:
+            run = with_changes(rng, run)
+            changed += sum(c[0] == 'lend' for c in run.calls)
+            mixed += mixed_eofs(run)
         if differs(program, run):
             print('list %d differs' % k)
             show(program, run)
@@ -293,13 +340,14 @@ def compare(program, count, seed):
         calls += len(run.calls)
         puts += sum(c[0] == 'put' for c in run.calls)
         bursted += sum(c[0] == 'burst' for c in run.calls)
-    print('%d lists, %d calls, %d of them puts and %d bursts: all as the model says' % (count, calls, puts, bursted))
-    return 0
+    said = ', the file changed %d times, %d EOFs with a checksum that the file lent then does not have' % (changed, mixed) if changes else ''
+    print('%d lists, %d calls, %d of them puts and %d bursts%s: all as the model says' % (count, calls, puts, bursted, said), flush=True)
+    return int(changes and count > 0 and not mixed)        # lists that could not tell count for nothing
 
 
 def main():
     program = command(os.path.abspath(sys.argv[3] if len(sys.argv) > 3 else os.path.join(ROOT, 'target', 'bin', 'drive')))
-    return compare(program, int(sys.argv[1]), int(sys.argv[2]))
+    return compare(program, int(sys.argv[1]), int(sys.argv[2]), sys.argv[4:] == ['changes'])
 
 
 if __name__ == '__main__':

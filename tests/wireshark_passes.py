@@ -31,9 +31,8 @@ class Telling(model.Transaction):
     def data(self, file, start, end):
         return said(self.header, 'File data', (start, file[start:end]), super().data(file, start, end))
 
-    def eof(self, file, condition, size):
-        total = model.CHECKSUMS[self.checksum](file[:size])
-        return said(self.header, 'EOF', (condition, total, size), super().eof(file, condition, size))
+    def eof(self, condition):
+        return said(self.header, 'EOF', (condition, self.sum, self.progress), super().eof(condition))
 
     def ack_of_finished(self):
         return said(self.header, 'ACK', (5, 1, self.finished[0], 0, 1), super().ack_of_finished())

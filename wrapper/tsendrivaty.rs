@@ -125,17 +125,9 @@ struct Names {
 
 #[repr(C)]
 #[derive(Clone, Copy, Debug, PartialEq, Eq)]
-struct Eof {
-    condition: u8,
-    sum: u32,
-    size: u64,
-}
-
-#[repr(C)]
-#[derive(Clone, Copy, Debug, PartialEq, Eq)]
 struct FileParams {
     progress: u64,
-    eof: Eof,
+    sum: u32,
 }
 
 #[repr(C)]
@@ -187,7 +179,7 @@ struct BurstReport {
     steps: [Report; 16],
 }
 
-/// The handler: 2,120 bytes with nothing behind them. Copy it to save it.
+/// The handler: 2,112 bytes with nothing behind them. Copy it to save it.
 #[repr(C)]
 #[derive(Clone, Copy, Debug, PartialEq, Eq)]
 pub struct Handler {
@@ -203,14 +195,19 @@ pub struct Handler {
 }
 
 // The layout that the archive was built with.
-const _: () = assert!(size_of::<Handler>() == 2120 && align_of::<Handler>() == 8 && size_of::<usize>() == 8);
+const _: () = assert!(size_of::<Handler>() == 2112 && align_of::<Handler>() == 8 && size_of::<usize>() == 8);
 const _: () = assert!(offset_of!(Handler, number) == 368 && offset_of!(Handler, step) == 384 && offset_of!(Handler, transaction) == 392);
-const _: () = assert!(offset_of!(Handler, names) == 480 && offset_of!(Handler, file) == 992 && offset_of!(Handler, queue) == 1016);
-const _: () = assert!(offset_of!(Handler, marks) == 2048 && offset_of!(Handler, report) == 2056);
+const _: () = assert!(offset_of!(Handler, names) == 480 && offset_of!(Handler, file) == 992 && offset_of!(Handler, queue) == 1008);
+const _: () = assert!(offset_of!(Handler, marks) == 2040 && offset_of!(Handler, report) == 2048);
 const _: () = assert!(size_of::<Remote>() == 40 && offset_of!(Remote, checksum) == 32 && offset_of!(Config, count) == 336);
-const _: () = assert!(offset_of!(Transaction, segment) == 48 && offset_of!(Transaction, unacknowledged) == 80 && offset_of!(Eof, sum) == 4);
+const _: () = assert!(offset_of!(Transaction, segment) == 48 && offset_of!(Transaction, unacknowledged) == 80);
+const _: () = assert!(offset_of!(FileParams, sum) == 8 && bytes_of(&EMPTY.file.sum) == 4);
 const _: () = assert!(offset_of!(Report, transaction) == 48 && offset_of!(Report, values) == 54 && offset_of!(Report, timer) == 57);
 const _: () = assert!(size_of::<BurstReport>() == 1032 && align_of::<BurstReport>() == 8 && offset_of!(BurstReport, steps) == 8);
+
+const fn bytes_of<T>(_: &T) -> usize {
+    size_of::<T>()
+}
 
 // ---- What a step says
 
@@ -530,6 +527,11 @@ impl Handler {
         self.file.progress
     }
 
+    /// Their checksum, the number that an EOF would carry now; 0 when none have left.
+    pub fn sum(&self) -> u32 {
+        self.file.sum
+    }
+
     /// Requests of accepted NAKs that are not wholly served.
     pub fn pending(&self) -> usize {
         self.queue.count
@@ -560,7 +562,7 @@ const EMPTY: Handler = Handler {
         finished: 0,
     },
     names: Names { source: [0; 255], sourcelen: 0, destination: [0; 255], destinationlen: 0 },
-    file: FileParams { progress: 0, eof: Eof { condition: 0, sum: 0, size: 0 } },
+    file: FileParams { progress: 0, sum: 0 },
     queue: Queue { places: [Request { start: 0, end: 0 }; 64], count: 0 },
     marks: Marks { cancelled: 0, owed: 0, condition: 0, count: 0, finished: NO_VALUES, anomalies: 0 },
     report: Report {

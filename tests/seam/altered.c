@@ -13,6 +13,38 @@ uint32_t right_calls_burst(H, SLICE, uint8_t expired, size_t count, uint8_t *out
 uint32_t right_calls_cancel(H, uint8_t width, uint64_t source, uint8_t number_width, uint64_t number);
 uint32_t right_calls_reset(H);
 
+/* ---- what R-2 forbids: `was` is the handler before a step or a burst that was accepted */
+
+static struct tsendrivaty_handler was;
+static uint32_t last; /* the sum of the last transaction that ended */
+
+static uint32_t modular(uint32_t sum, uint64_t at, SLICE) {
+    for (size_t i = 0; i < n; i++) sum += (uint32_t)p[i] << 8 * (3 - (at + i) % 4);
+    return sum;
+}
+
+/* An EOF with the modular sum, without CRC and large flag, gets the sum of the lent file's first bytes. */
+static void over_the_lent(SLICE, uint8_t *pdu, size_t length) {
+    size_t head = length > 3 ? 4 + 2 * ((pdu[3] >> 4) % 8 + 1) + pdu[3] % 8 + 1 : 0, size = 0;
+    if (length != head + 10 || pdu[0] & 0x13 || pdu[head] != 4 || was.transaction.checksum != TSENDRIVATY_MODULAR) return;
+    for (int k = 0; k < 4; k++) size = size << 8 | pdu[head + 6 + k];
+    uint32_t sum = modular(0, 0, p, size < n ? size : n);
+    for (int k = 0; k < 4; k++) pdu[head + 2 + k] = (uint8_t)(sum >> 8 * (3 - k));
+}
+
+static void otherwise(H, SLICE, uint8_t *out) {
+    size_t length = h->report.length;
+    uint64_t from = was.file.progress, to = h->file.progress;
+    int owed = was.marks.cancelled && was.marks.owed;
+    if (IS(24) && was.queue.count && !owed && length) h->file.sum++;
+    if (IS(25) && was.step == TSENDRIVATY_SENDING_EOF && !owed) over_the_lent(p, n, out, length);
+    if (IS(26) && owed) over_the_lent(p, n, out, length);
+    if (IS(27) && h->report.fault) over_the_lent(p, n, out, length);
+    if (IS(28) && was.step == TSENDRIVATY_WAITING_FOR_EOF_ACK && h->marks.count == was.marks.count + 1) over_the_lent(p, n, out, length);
+    if (IS(29) && to > from && to <= n && !was.transaction.checksum) h->file.sum = modular(was.file.sum, 0, p + from, to - from);
+    if (IS(30) && to > from && to <= n && !was.transaction.checksum) h->file.sum = modular(0, 0, p, to);
+}
+
 uint32_t tsendrivaty_new(H, uint8_t width, uint64_t number) {
     return right_calls_new(h, width, number);
 }
@@ -23,6 +55,7 @@ uint32_t tsendrivaty_put(H, uint8_t width, uint64_t to, uint8_t mode, uint8_t cl
     if (IS(6) && r) h->number.value++;
     if (IS(8) && !r) h->config.remotes[7].limit ^= 1;
     if (IS(9) && !r) h->number.value = number;
+    if (IS(31) && !r) h->file.sum = last;
     return r;
 }
 
@@ -33,7 +66,12 @@ uint32_t tsendrivaty_deliver(H, SLICE) {
 
 uint32_t tsendrivaty_step(H, SLICE, uint8_t expired, uint8_t *out, size_t room) {
     size_t repairs = h->queue.count;
+    was = *h;
     uint32_t r = right_calls_step(h, p, n, expired, out, room);
+    if (!r) otherwise(h, p, n, out);
+    if (!r && !h->step && was.step) last = was.file.sum;
+    if (IS(32) && r) h->file.sum++;
+    if (IS(33) && !r && !h->step && was.step) h->file.sum = was.file.sum;
     if (IS(1) && !r && h->report.length > 11) out[11] ^= 0x10;
     if (IS(2) && !r && h->report.length > 0) h->report.length--;
     if (IS(3) && !r) h->report.timer = 0;
@@ -65,9 +103,13 @@ uint32_t tsendrivaty_burst(H, SLICE, uint8_t expired, size_t count, uint8_t *out
     if (IS(23) && expired && count <= 16) return burst_of_expired(h, p, n, count, out, room, report);
     if (IS(15) && !count && h->step != TSENDRIVATY_IDLE && n != h->transaction.size) return TSENDRIVATY_FILE_CHANGED;
     static const struct tsendrivaty_report none;
+    was = *h;
     uint32_t r = right_calls_burst(h, p, n, expired, IS(13) && count == 17 ? 16 : IS(14) && count == 16 ? 15 : count, out, room, report);
     size_t made = r ? 0 : report->count, taken = 0;
-    for (size_t i = 0; i < made; i++) taken += report->steps[i].length;
+    for (size_t i = 0; i < made; i++) {
+        if (IS(37)) over_the_lent(p, n, out + taken, report->steps[i].length);
+        taken += report->steps[i].length;
+    }
     if (IS(16) && made > 1 && report->steps[1].length) out[report->steps[0].length] ^= 1;
     if (IS(17) && made > 1 && !report->steps[made - 1].length) report->count--;
     if (IS(18) && made > 1) report->steps[0].timer = report->steps[made - 1].timer;
@@ -75,16 +117,20 @@ uint32_t tsendrivaty_burst(H, SLICE, uint8_t expired, size_t count, uint8_t *out
     if (IS(20) && r) h->marks.count++;
     if (IS(21) && made && taken < room) out[taken] ^= 1;
     if (IS(22) && r == TSENDRIVATY_OUT_TOO_SMALL) report->count = 0, r = 0;
-    if (IS(24) && made && made < 16) report->steps[made] = none;
-    if (IS(25) && r) report->count++;
+    if (IS(34) && made && h->step) h->file.sum = was.file.sum;
+    if (IS(38) && made && made < 16) report->steps[made] = none;
+    if (IS(39) && r) report->count++;
     return r;
 }
 
 uint32_t tsendrivaty_cancel(H, uint8_t width, uint64_t source, uint8_t number_width, uint64_t number) {
     uint32_t r = right_calls_cancel(h, width, source, number_width, number);
+    if (IS(35) && r) h->file.sum = 0;
     return IS(11) && h->step == TSENDRIVATY_IDLE ? 1 : r;
 }
 
 uint32_t tsendrivaty_reset(H) {
-    return IS(12) ? 0 : right_calls_reset(h);
+    uint32_t sum = h->file.sum, r = IS(12) ? 0 : right_calls_reset(h);
+    if (IS(36)) h->file.sum = sum;
+    return r;
 }

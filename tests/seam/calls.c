@@ -1,5 +1,6 @@
 /* The lists of calls of docs/HOST.md, run through the seven functions: what the program `drive` does, over lent memory. So tests/random_passes.py can hold
- * thousands of random calls through the seam to the model. Standard input: four bytes of the file's length, the file, the number, the calls. */
+ * thousands of random calls through the seam to the model. Standard input: four bytes of the file's length, the file, the number, the calls. Two kinds of
+ * its own: 64, four bytes of a place, files are lent from there on from now on; 65, answers with what the record holds, progress (8) and checksum (4). */
 #include "../../include/tsendrivaty.h"
 
 long read(int, void *, size_t);
@@ -101,10 +102,14 @@ static void burst(const uint8_t *file, size_t length) {
     for (size_t i = 0; i < made.count; from += made.steps[i++].length) tell(&made.steps[i], out + from);
 }
 
+static void look(void) {
+    say(8, h.file.progress), say(4, h.file.sum);
+}
+
 int main(void) {
     long got;
     while (end < sizeof in && (got = read(0, in + end, sizeof in - end)) > 0) end += (size_t)got;
-    size_t length = take(4), file = at;
+    size_t length = take(4), file = at, from = 0;
     at += length;
     struct tsendrivaty_entity_id number = id();
     tsendrivaty_new(&h, number.width, number.value);
@@ -118,12 +123,16 @@ int main(void) {
             at += n;
             say(1, tsendrivaty_deliver(&h, in + d, n));
         } else if (kind == 3) {
-            step(in + file, length);
+            step(in + file + from, length - from);
         } else if (kind == 4) {
             struct tsendrivaty_entity_id s = id(), n = id();
             say(1, tsendrivaty_cancel(&h, s.width, s.value, n.width, n.value));
         } else if (kind == 6) {
-            burst(in + file, length);
+            burst(in + file + from, length - from);
+        } else if (kind == 64) {
+            from = least(take(4), length);
+        } else if (kind == 65) {
+            look();
         } else {
             tsendrivaty_reset(&h);
         }

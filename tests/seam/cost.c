@@ -1,10 +1,11 @@
-/* What tests/cost.py measures: `cost CASE N` prepares a case and makes its call N times (0 or 1; the difference of two runs is the call);
- * the cases `pass` and `pass_crc` are a whole pass, from the put to the EOF; `cost stack` prints how deep each call goes; `cost size` the bytes of the
+/* What tests/cost.py measures: `cost CASE N [CHECKSUM]` prepares a case and makes its call N times (0 or 1; the difference of two runs is the call),
+ * with the case's checksum type or the one given; the cases `pass` and `pass_crc` are a whole pass, from the put to the EOF; `cost stack` prints how deep each call goes; `cost size` the bytes of the
  * handler and of its parts. For the stack a call is made on a painted stack, and the paint that is gone is counted, the host's own few bytes with it. */
 #include "../../include/tsendrivaty.h"
 
 int printf(const char *, ...);
 int strcmp(const char *, const char *);
+int atoi(const char *);
 void *memset(void *, int, size_t);
 void *memcpy(void *, const void *, size_t);
 
@@ -96,16 +97,15 @@ static const struct {
     uint64_t segment;
     size_t size;
     int steps;      /* before the call; -1: no put either */
-    char before;    /* delivered before the call: n NAK of a request, l of 40 short ones, a ACK of EOF */
-    char call;      /* p put, s step, x refused step, n deliver of a NAK, a of an ACK of EOF, f of a Finished PDU, k of a Keep Alive, u of an ACK that is refused, r reset, c cancel, w a whole
+    char before;    /* before the call: delivered n NAK of a request, l of 40 short ones, a ACK of EOF; c cancel */
+    char call;      /* p put, s step, e step that sends an EOF, x refused step, n deliver of a NAK, a of an ACK of EOF, f of a Finished PDU, k of a Keep Alive, u of an ACK that is refused, r reset, c cancel, w a whole
                        pass, b a burst of sixteen steps, 6 the same by sixteen calls, m memcpy of a data PDU's bytes */
     uint32_t naks;
 } CASES[] = {
     {"data", 0, 15, 4096, SIZE, 3, 0, 's', 0},       {"data_crc", 1, 15, 4096, SIZE, 3, 0, 's', 0},  {"data_100", 0, 15, 100, SIZE, 3, 0, 's', 0},
     {"data_1", 0, 15, 1, SIZE, 3, 0, 's', 0},        {"repair", 0, 15, 4096, SIZE, 3, 'n', 's', 0},    {"metadata", 0, 15, 4096, SIZE, 0, 0, 's', 0},
     {"nak_64", 0, 15, 4096, SIZE, 3, 0, 'n', 64},    {"nak_1", 0, 15, 4096, SIZE, 3, 0, 'n', 1},     {"put", 0, 15, 4096, SIZE, -1, 0, 'p', 0},
-    {"eof_null", 0, 15, 4096, 4000, 2, 0, 's', 0},   {"eof_modular", 0, 0, 4096, 4000, 2, 0, 's', 0}, {"eof_crc32c", 0, 2, 4096, 4000, 2, 0, 's', 0},
-    {"eof_crc32", 0, 3, 4096, 4000, 2, 0, 's', 0},   {"cancel", 0, 15, 4096, SIZE, 3, 0, 'c', 0},    {"reset", 0, 15, 4096, SIZE, 3, 0, 'r', 0},
+    {"eof_null", 0, 15, 4096, 4000, 2, 0, 's', 0},   {"cancel", 0, 15, 4096, SIZE, 3, 0, 'c', 0},    {"reset", 0, 15, 4096, SIZE, 3, 0, 'r', 0},
     {"refused", 0, 15, 4096, SIZE, 3, 0, 'x', 0},    {"copy", 0, 15, 4096, SIZE, 3, 0, 'm', 0},      {"ack", 0, 15, 4096, 4000, 3, 0, 'a', 0},
     {"finished", 0, 15, 4096, 4000, 3, 'a', 'f', 0}, {"keep_alive", 0, 15, 4096, SIZE, 3, 0, 'k', 0}, {"ack_refused", 0, 15, 4096, SIZE, 3, 0, 'u', 0},
     {"burst", 0, 15, 4096, LONG, 3, 0, 'b', 0},      {"burst_100", 0, 15, 100, LONG, 3, 0, 'b', 0},  {"burst_repair", 0, 15, 100, SIZE, 90, 'n', 'b', 0},
@@ -113,21 +113,26 @@ static const struct {
     {"burst_lost", 0, 15, 100, SIZE, 90, 'l', 'b', 0}, {"sixteen_lost", 0, 15, 100, SIZE, 90, 'l', '6', 0},
     {"burst_crc", 1, 15, 4096, LONG, 3, 0, 'b', 0},  {"sixteen_crc", 1, 15, 4096, LONG, 3, 0, '6', 0},
     {"pass", 0, 15, 4096, SIZE, -1, 0, 'w', 0},      {"pass_crc", 1, 15, 4096, SIZE, -1, 0, 'w', 0},
+    /* after 1, 10 and 100 pieces of 4,085 bytes: the EOF of a file that is no longer, the EOF of a cancel with one byte to go */
+    {"eof_1", 0, 15, 4096, 4085, 2, 0, 'e', 0},      {"eof_10", 0, 15, 4096, 40850, 11, 0, 'e', 0},  {"eof_100", 0, 15, 4096, 408500, 101, 0, 'e', 0},
+    {"cancelled_1", 0, 15, 4096, 4086, 2, 'c', 'e', 0}, {"cancelled_10", 0, 15, 4096, 40851, 11, 'c', 'e', 0},
+    {"cancelled_100", 0, 15, 4096, 408501, 101, 'c', 'e', 0},
 };
 #define COUNT (sizeof CASES / sizeof CASES[0])
 
-static void prepared(size_t k) {
+static void prepared(size_t k, uint8_t checksum) {
     asked(64, 8000);
     if (CASES[k].steps < 0)
-        configured(CASES[k].crc, CASES[k].checksum, CASES[k].segment);
+        configured(CASES[k].crc, checksum, CASES[k].segment);
     else
-        at_data(CASES[k].crc, CASES[k].checksum, CASES[k].segment, CASES[k].size, CASES[k].steps);
+        at_data(CASES[k].crc, checksum, CASES[k].segment, CASES[k].size, CASES[k].steps);
     if (CASES[k].before == 'n') nak(1);
     if (CASES[k].before == 'l') {
         asked(64, 60);
         nak(40);
     }
     if (CASES[k].before == 'a') ack_of_eof();
+    if (CASES[k].before == 'c') answer = !tsendrivaty_cancel(&h, 1, 1, 1, 7);
 }
 
 static size_t piece = 4085;
@@ -136,6 +141,7 @@ __attribute__((noinline)) static void called(size_t k) {
     switch (CASES[k].call) {
     case 'p': put(0, CASES[k].size); break;
     case 's': step(0); break;
+    case 'e': step(0); answer |= !h.report.eofsent; break;
     case 'n': nak(CASES[k].naks); break;
     case 'c': answer = !tsendrivaty_cancel(&h, 1, 1, 1, 7); break;
     case 'r': answer = tsendrivaty_reset(&h); break;
@@ -221,10 +227,10 @@ int main(int argc, char **argv) {
     } else if (argc == 2 && !strcmp(argv[1], "size")) {
         printf("handler %lu\nconfiguration %lu\nreport %lu\nstate %lu\n", sizeof h, sizeof h.config, sizeof h.report, sizeof h - sizeof h.config - sizeof h.report);
         printf("queue %lu\nnames %lu\n", sizeof h.queue, sizeof h.names);
-    } else if (argc == 3) {
+    } else if (argc == 3 || argc == 4) {
         for (size_t k = 0; k < COUNT; k++)
             if (!strcmp(argv[1], CASES[k].name)) {
-                prepared(k);
+                prepared(k, argc == 4 ? (uint8_t)atoi(argv[3]) : CASES[k].checksum);
                 if (argv[2][0] == '1') called(k);
                 return answer != 0;
             }

@@ -22,7 +22,8 @@ static struct memory {
     uint8_t out[FRAME + EDGE];
 } m, was;
 static size_t room = ROOM; /* so much of `out` may be lent; behind it lies an edge */
-static const uint8_t *file = (const uint8_t *)"ABCDEFGHIJKLMNOPQRST";
+static const uint8_t *files = (const uint8_t *)"ABCDEFGHIJKLMNOPQRSTabcdefghijklmnopqrst"; /* a file, and behind it another */
+static const uint8_t *file; /* the one that is lent */
 static size_t lent;
 static int wrong;
 
@@ -53,7 +54,7 @@ static int same(const struct tsendrivaty_handler *a, const struct tsendrivaty_ha
         }
         memset(&h->config.finished + 1, 0, 6);
         memset(&h->step + 1, 0, 7);
-        memset(&h->file.eof.condition + 1, 0, 3);
+        memset(&h->file.sum + 1, 0, 4);
         without_padding(&h->report);
     }
     return memcmp(&x, &y, sizeof x) == 0;
@@ -138,7 +139,19 @@ static void fresh(const char *label, uint8_t width, uint64_t number, size_t leng
     memset(m.h.config.actions, TSENDRIVATY_CANCEL, 16);
     m.h.config.eofsent = m.h.config.finished = 1;
     tsendrivaty_new(&m.h, width, number);
+    file = files;
     lent = length;
+}
+
+/* From here on what is lent begins at this place. */
+static void lend(size_t place) {
+    file = files + place;
+    printf("lend %lu\n", (unsigned long)place);
+}
+
+/* What the record holds. */
+static void look(void) {
+    printf("look %lu %08x\n", (unsigned long)m.h.file.progress, m.h.file.sum);
 }
 
 static void put_named(uint8_t width, uint64_t to, uint8_t unacknowledged, uint8_t closure, const char *s, size_t sn, const char *d, size_t dn) {
@@ -425,12 +438,12 @@ static void bursts_with_expiry(void) {
 }
 
 static void long_bursts(void) {
-    static uint8_t big[65400];
-    const uint8_t *small = file;
+    static uint8_t big[69400];
+    const uint8_t *small = files;
     for (size_t i = 0; i < sizeof big; i++) big[i] = (uint8_t)(i * 7 + i / 256);
-    file = big;
+    files = big;
     room = FRAME;
-    fresh("sixteen data PDUs of 4,096 bytes in 65,536 bytes", 1, 7, sizeof big);
+    fresh("sixteen data PDUs of 4,096 bytes in 65,536 bytes", 1, 7, 65400);
     m.h.config.remotes[0].maxpacket = m.h.config.remotes[0].maxsegment = 4096;
     m.h.config.remotes[0].checksum = TSENDRIVATY_CRC32;
     put(0, 2);
@@ -441,8 +454,123 @@ static void long_bursts(void) {
     burst_in(lent, 1, 16, FRAME - 1);
     burst(16, 1);
     burst(16, 1);
-    file = small;
+    fresh("the same, another file lent for some", 1, 7, 65400);
+    m.h.config.remotes[0].maxpacket = m.h.config.remotes[0].maxsegment = 4096;
+    m.h.config.remotes[0].checksum = TSENDRIVATY_CRC32C;
+    put(0, 2);
+    burst(8, 0);
+    lend(3999);
+    burst(5, 0);
+    look();
+    nak(7, (const uint32_t[]){40, 49000}, 1);
+    burst(14, 0);
+    look();
+    lend(0);
+    burst(1, 0);
+    lend(3999);
+    burst(16, 0);
+    look();
+    lend(0);
+    burst(16, 1);
+    files = small;
     room = ROOM;
+}
+
+/* ---- another file of the same length: each data PDU has the bytes of the file lent with it, the EOF the checksum of those that left */
+
+static void changed_files(void) {
+    fresh("D28 of docs/DIFFERENCES.md: an EOF, a cancel's, a fault's", 1, 7, 5);
+    put(1, 0);
+    steps(2, 0);
+    lend(20);
+    steps(2, 0);
+    lend(0);
+    m.h.config.remotes[0].checksum = TSENDRIVATY_CRC32;
+    put(1, 0);
+    steps(2, 0);
+    cancel(1, 8);
+    lend(20);
+    steps(2, 0);
+    lend(0);
+    m.h.config.remotes[0].checksum = TSENDRIVATY_MODULAR;
+    m.h.config.remotes[0].limit = 1;
+    put(0, 0);
+    steps(4, 0);
+    lend(20);
+    steps(1, 1);
+}
+
+/* Pieces of three bytes, so that progress is no multiple of four. */
+static void changed_with(const char *label, uint8_t checksum) {
+    fresh(label, 1, 7, 10);
+    m.h.config.remotes[0].maxsegment = 3;
+    m.h.config.remotes[0].checksum = checksum;
+    look();
+    put(0, 2);
+    look();
+    steps(2, 0);
+    look();
+    lend(20);
+    steps(1, 0);
+    look();
+    nak(7, (const uint32_t[]){0, 5, 0, 0}, 2); /* repairs: other bytes than those that left first, and nothing moves */
+    look();
+    step_in(9, 0, ROOM);
+    step_in(10, 0, 3);
+    look();
+    steps(2, 0);
+    look();
+    burst(2, 0); /* the metadata, and a piece */
+    look();
+    lend(0);
+    step_in(10, 0, 3); /* refused: the piece that leaves is the next file's */
+    look();
+    lend(20);
+    burst(1, 0);
+    look();
+    lend(0);
+    steps(1, 0);
+    look();
+    lend(20);
+    steps(1, 1);
+    lend(0);
+    steps(1, 1); /* the fault cancels */
+    look();
+    lend(20);
+    steps(1, 1);
+    ack_of_eof(7);
+    finished(7, 0x12);
+    look();
+    steps(1, 0);
+    look();
+    put(0, 2);
+    look();
+    burst(3, 0);
+    look();
+    lend(0);
+    cancel(1, 8);
+    look();
+    steps(1, 0);
+    lend(20);
+    burst(16, 1);
+    look();
+    steps(1, 1); /* abandoned */
+    look();
+    lend(0);
+    put(0, 2);
+    burst(2, 0);
+    reset();
+    look();
+    lend(20);
+    put(1, 1);
+    look();
+    burst(3, 0);
+    lend(0);
+    burst(16, 0);
+    look();
+    lend(20);
+    steps(1, 1); /* no Finished in time: the fault cancels */
+    look();
 }
 
 /* ---- memory that holds anything at all: every call returns one of document 01's numbers, and is watched as above */
@@ -529,6 +657,7 @@ static int one_call(int call) {
 static void garbage(int way, const char *label, int rounds) {
     int calls = 0, good = 0;
     seed = 0x9E3779B97F4A7C15;
+    file = files;
     lent = 20;
     memset(&m, 0xA5, sizeof m);
     for (int i = 0; i < rounds; i++) {
@@ -576,7 +705,7 @@ static void random_delivery(void) {
     tsendrivaty_deliver(&m.h, pdu, framed(pdu, (uint8_t)m.h.transaction.number.value, body, n));
 }
 
-/* One burst, behind perhaps a put, a delivery, a cancel or a reset. */
+/* One burst, behind perhaps a put, a delivery, a cancel or a reset; over the one file or the other. */
 static int random_burst(size_t *made) {
     uint64_t dice = some() % 64;
     if (m.h.step == TSENDRIVATY_IDLE && dice % 8) random_put();
@@ -586,6 +715,7 @@ static int random_burst(size_t *made) {
     size_t space = some() % 2 ? room : some() % 250, length = some() % 16 ? lent : some() % 21;
     size_t count = some() % 8 ? 1 + some() % 16 : some() % 20;
     uint8_t expired = some() % 3 == 0;
+    file = files + (some() % 4 ? 0 : 20);
     m.out[some() % 250] = (uint8_t)some();
     m.r.steps[some() % 16].length = some();
     watch();
@@ -618,6 +748,11 @@ int main(void) {
     short_bursts();
     bursts_with_expiry();
     long_bursts();
+    changed_files();
+    changed_with("another file of the same length, modular", TSENDRIVATY_MODULAR);
+    changed_with("another file of the same length, CRC-32C", TSENDRIVATY_CRC32C);
+    changed_with("another file of the same length, CRC-32", TSENDRIVATY_CRC32);
+    changed_with("another file of the same length, no checksum", TSENDRIVATY_NULL);
     garbage(0, "every byte 255", 4);
     garbage(1, "random", 200);
     garbage(2, "random, near a state", 1000);

@@ -12,7 +12,9 @@ use tsendrivaty::{At, Burst, Config, EntityId, Events, Handler, Put, Refusal, Re
 const ROOM: usize = 4608;
 /// Enough for any burst.
 const FRAME: usize = 65536;
-const FILE: &[u8] = b"ABCDEFGHIJKLMNOPQRST";
+/// A file, and behind it another.
+const FILES: &[u8] = b"ABCDEFGHIJKLMNOPQRSTabcdefghijklmnopqrst";
+const LENGTH: usize = FILES.len() / 2;
 const EDGE: [u8; 64] = [0xA5; 64];
 
 /// What a call may touch, with what lies around it; of `out` the last 64 bytes are never lent.
@@ -51,7 +53,9 @@ impl Memory {
 
 struct Host {
     m: Memory,
-    file: Vec<u8>,
+    files: Vec<u8>,
+    /// Where in `files` that begins which is lent, and how much of it is.
+    place: usize,
     lent: usize,
     wrong: bool,
 }
@@ -159,7 +163,18 @@ impl Host {
         let remote = Remote { id: EntityId { width: 1, value: 2 }, maxpacket: 17, maxsegment: 4, limit: 2, ..Remote::NONE };
         let config = Config::to(EntityId { width: 1, value: 1 }, remote);
         self.m = Memory::of(Handler::new(config, SequenceNumber { width, value }), self.m.room());
-        self.lent = lent;
+        (self.place, self.lent) = (0, lent);
+    }
+
+    /// From here on what is lent begins at this place.
+    fn lend(&mut self, place: usize) {
+        self.place = place;
+        println!("lend {place}");
+    }
+
+    /// What the record holds.
+    fn look(&self) {
+        println!("look {} {:08x}", self.m.around.h.progress(), self.m.around.h.sum());
     }
 
     fn line(&mut self, was: &Memory, said: String, refused: bool, length: usize) {
@@ -200,7 +215,7 @@ impl Host {
 
     fn step_in(&mut self, length: usize, expired: bool, room: usize) {
         let was = self.m.clone();
-        let (said, refused, n) = match self.m.around.h.step(&self.file[..length], expired, &mut self.m.out[..room]) {
+        let (said, refused, n) = match self.m.around.h.step(&self.files[self.place..][..length], expired, &mut self.m.out[..room]) {
             Ok(s) => (format!("step 0 {}{}", hex(s.pdu), told(&s.events)), false, s.pdu.len()),
             Err(r) => (format!("step {} -", r.number()), true, 0),
         };
@@ -214,7 +229,7 @@ impl Host {
     }
 
     fn burst_in(&mut self, length: usize, expired: bool, count: usize, room: usize) {
-        let (got, good) = burst_on(&mut self.m, &self.file[..length], expired, count, room);
+        let (got, good) = burst_on(&mut self.m, &self.files[self.place..][..length], expired, count, room);
         match got {
             Ok(made) => {
                 print!("burst 0 {}", made.len());
@@ -449,9 +464,9 @@ impl Host {
     }
 
     fn long_bursts(&mut self) {
-        self.file = (0..65400).map(|i| (i * 7 + i / 256) as u8).collect();
+        self.files = (0..69400).map(|i| (i * 7 + i / 256) as u8).collect();
         self.m = Memory::of(self.m.around.h, FRAME);
-        self.fresh("sixteen data PDUs of 4,096 bytes in 65,536 bytes", 1, 7, self.file.len());
+        self.fresh("sixteen data PDUs of 4,096 bytes in 65,536 bytes", 1, 7, 65400);
         let entry = &mut self.m.around.h.config.remotes[0];
         (entry.maxpacket, entry.maxsegment, entry.checksum) = (4096, 4096, 3);
         self.put(false, None);
@@ -462,6 +477,125 @@ impl Host {
         self.burst_in(self.lent, true, 16, FRAME - 1);
         self.burst(16, true);
         self.burst(16, true);
+        self.fresh("the same, another file lent for some", 1, 7, 65400);
+        let entry = &mut self.m.around.h.config.remotes[0];
+        (entry.maxpacket, entry.maxsegment, entry.checksum) = (4096, 4096, 2);
+        self.put(false, None);
+        self.burst(8, false);
+        self.lend(3999);
+        self.burst(5, false);
+        self.look();
+        self.nak(7, &[(40, 49000)]);
+        self.burst(14, false);
+        self.look();
+        self.lend(0);
+        self.burst(1, false);
+        self.lend(3999);
+        self.burst(16, false);
+        self.look();
+        self.lend(0);
+        self.burst(16, true);
+        self.files = FILES.to_vec();
+        self.m = Memory::of(self.m.around.h, ROOM);
+    }
+}
+
+// ---- another file of the same length: each data PDU has the bytes of the file lent with it, the EOF the checksum of those that left
+
+impl Host {
+    fn changed_files(&mut self) {
+        self.fresh("D28 of docs/DIFFERENCES.md: an EOF, a cancel's, a fault's", 1, 7, 5);
+        self.put(true, Some(false));
+        self.steps(2, false);
+        self.lend(20);
+        self.steps(2, false);
+        self.lend(0);
+        self.m.around.h.config.remotes[0].checksum = 3;
+        self.put(true, Some(false));
+        self.steps(2, false);
+        self.cancel(1, 8);
+        self.lend(20);
+        self.steps(2, false);
+        self.lend(0);
+        let entry = &mut self.m.around.h.config.remotes[0];
+        (entry.checksum, entry.limit) = (0, 1);
+        self.put(false, Some(false));
+        self.steps(4, false);
+        self.lend(20);
+        self.steps(1, true);
+    }
+
+    /// Pieces of three bytes, so that progress is no multiple of four.
+    fn changed_with(&mut self, label: &str, checksum: u8) {
+        self.fresh(label, 1, 7, 10);
+        let entry = &mut self.m.around.h.config.remotes[0];
+        (entry.maxsegment, entry.checksum) = (3, checksum);
+        self.look();
+        self.put(false, None);
+        self.look();
+        self.steps(2, false);
+        self.look();
+        self.lend(20);
+        self.steps(1, false);
+        self.look();
+        self.nak(7, &[(0, 5), (0, 0)]); // repairs: other bytes than those that left first, and nothing moves
+        self.look();
+        self.step_in(9, false, ROOM);
+        self.step_in(10, false, 3);
+        self.look();
+        self.steps(2, false);
+        self.look();
+        self.burst(2, false); // the metadata, and a piece
+        self.look();
+        self.lend(0);
+        self.step_in(10, false, 3); // refused: the piece that leaves is the next file's
+        self.look();
+        self.lend(20);
+        self.burst(1, false);
+        self.look();
+        self.lend(0);
+        self.steps(1, false);
+        self.look();
+        self.lend(20);
+        self.steps(1, true);
+        self.lend(0);
+        self.steps(1, true); // the fault cancels
+        self.look();
+        self.lend(20);
+        self.steps(1, true);
+        self.ack_of_eof(7);
+        self.finished(7, 0x12);
+        self.look();
+        self.steps(1, false);
+        self.look();
+        self.put(false, None);
+        self.look();
+        self.burst(3, false);
+        self.look();
+        self.lend(0);
+        self.cancel(1, 8);
+        self.look();
+        self.steps(1, false);
+        self.lend(20);
+        self.burst(16, true);
+        self.look();
+        self.steps(1, true); // abandoned
+        self.look();
+        self.lend(0);
+        self.put(false, None);
+        self.burst(2, false);
+        self.reset();
+        self.look();
+        self.lend(20);
+        self.put(true, Some(true));
+        self.look();
+        self.burst(3, false);
+        self.lend(0);
+        self.burst(16, false);
+        self.look();
+        self.lend(20);
+        self.steps(1, true); // no Finished in time: the fault cancels
+        self.look();
     }
 }
 
@@ -503,8 +637,8 @@ const STEP: usize = 384;
 const SEGMENT: usize = 440;
 const SIZE: usize = 448;
 const PROGRESS: usize = 992;
-const PLACES: usize = 1016;
-const COUNT: usize = 2040;
+const PLACES: usize = 1008;
+const COUNT: usize = 2032;
 const SOURCE: usize = 392;
 const NUMBER: usize = 408;
 const DESTINATION: usize = 424;
@@ -516,7 +650,7 @@ fn filled(r: &mut Random, way: Way) -> [u8; size_of::<Handler>()] {
     }
     if way == Way::NearAState {
         let mut word = |at: usize, v: u64| b[at..at + 8].copy_from_slice(&v.to_le_bytes());
-        word(SIZE, FILE.len() as u64);
+        word(SIZE, LENGTH as u64);
         word(SEGMENT, r.size());
         word(PROGRESS, r.size());
         word(COUNT, if r.below(4) > 0 { r.below(66) } else { r.next() });
@@ -564,8 +698,8 @@ fn one_call(r: &mut Random, m: &mut Memory, b: &[u8], call: u64) -> bool {
     match call {
         0 => {
             let room = if r.below(4) > 0 { ROOM } else { r.below(40) as usize };
-            let lent = if r.below(9) > 0 { FILE.len() } else { r.below(21) as usize };
-            match m.around.h.step(&FILE[..lent], r.below(2) == 0, &mut m.out[..room]) {
+            let lent = if r.below(9) > 0 { LENGTH } else { r.below(21) as usize };
+            match m.around.h.step(&FILES[..lent], r.below(2) == 0, &mut m.out[..room]) {
                 Ok(s) => length = s.pdu.len(),
                 Err(_) => refused = true,
             }
@@ -586,9 +720,9 @@ fn one_call(r: &mut Random, m: &mut Memory, b: &[u8], call: u64) -> bool {
         4 => m.around.h.reset(),
         6 => {
             let room = if r.below(4) > 0 { ROOM } else { r.below(150) as usize };
-            let lent = if r.below(9) > 0 { FILE.len() } else { r.below(21) as usize };
+            let lent = if r.below(9) > 0 { LENGTH } else { r.below(21) as usize };
             let count = if r.below(16) > 0 { r.below(18) } else { r.next() } as usize;
-            return burst_on(m, &FILE[..lent], r.below(2) == 0, count, room).1;
+            return burst_on(m, &FILES[..lent], r.below(2) == 0, count, room).1;
         }
         _ => m.around.h = Handler::new(m.around.h.config, SequenceNumber { width: r.next() as u8, value: r.next() }),
     }
@@ -611,7 +745,7 @@ fn garbage(way: Way, label: &str, rounds: usize) -> bool {
     good == calls
 }
 
-// ---- random passes on a handler that began as a new one: every burst is what the same steps are, one by one
+// ---- random passes on a handler that began as a new one, over the one file or the other: every burst is what the same steps are, one by one
 
 /// The number of the transaction under way.
 fn current(h: &Handler) -> u8 {
@@ -669,8 +803,9 @@ fn random_bursts(rounds: usize) -> bool {
         let room = if r.below(2) > 0 { ROOM } else { r.below(250) as usize };
         let length = if r.below(16) > 0 { lent } else { r.below(21) as usize };
         let count = if r.below(8) > 0 { 1 + r.below(16) } else { r.below(20) } as usize;
+        let place = if r.below(4) > 0 { 0 } else { LENGTH };
         m.out[r.below(250) as usize] = r.next() as u8;
-        let (got, right) = burst_on(&mut m, &FILE[..length], r.below(3) == 0, count, room);
+        let (got, right) = burst_on(&mut m, &FILES[place..][..length], r.below(3) == 0, count, room);
         steps += got.map_or(0, |made| made.len());
         good += right as usize;
     }
@@ -682,7 +817,7 @@ fn random_bursts(rounds: usize) -> bool {
 pub extern "C" fn main(_: i32, _: *const *const u8) -> i32 {
     let config = Config::to(EntityId { width: 1, value: 1 }, Remote::NONE);
     let m = Memory::of(Handler::new(config, SequenceNumber { width: 1, value: 0 }), ROOM);
-    let mut host = Host { m, file: FILE.to_vec(), lent: 0, wrong: false };
+    let mut host = Host { m, files: FILES.to_vec(), place: 0, lent: 0, wrong: false };
     host.byte_cases();
     host.acknowledged();
     host.refusals();
@@ -692,6 +827,11 @@ pub extern "C" fn main(_: i32, _: *const *const u8) -> i32 {
     host.short_bursts();
     host.bursts_with_expiry();
     host.long_bursts();
+    host.changed_files();
+    host.changed_with("another file of the same length, modular", 0);
+    host.changed_with("another file of the same length, CRC-32C", 2);
+    host.changed_with("another file of the same length, CRC-32", 3);
+    host.changed_with("another file of the same length, no checksum", 15);
     host.wrong |= !garbage(Way::Ones, "every byte 255", 4);
     host.wrong |= !garbage(Way::Random, "random", 200);
     host.wrong |= !garbage(Way::NearAState, "random, near a state", 1000);

@@ -11,12 +11,13 @@ HERE = os.path.dirname(os.path.abspath(__file__))
 sys.path.insert(0, os.path.dirname(HERE))
 import calls
 from calls import Run, answer_line, answers
-from model import Config, Entry, Header, Request, be
+from model import CHECKSUMS, Config, Entry, Header, Request, be
+from random_passes import is_eof
 
 ROOM = 4608
 FRAME = calls.ROOM = 65536      # the hosts' out buffer is longer than that of a list of calls
-FILE = b'ABCDEFGHIJKLMNOPQRST'
-BIG = bytes((i * 7 + i // 256) % 256 for i in range(65400))
+FILE = b'ABCDEFGHIJKLMNOPQRST' + b'abcdefghijklmnopqrst'        # a file, and behind it another
+BIG = bytes((i * 7 + i // 256) % 256 for i in range(69400))
 M = ['24000a0001070207000000000501610162', '3400080001070200000000' + b'ABCD'.hex(), '3400050001070200000004' + b'E'.hex(), '24000a0001070204008642434400000005']
 lines = []
 
@@ -70,6 +71,18 @@ class Host:
 
     def cancel(self, source, number):
         self.call('cancel', (1, source), (1, number))
+
+    def lend(self, place):
+        self.call('lend', place)
+
+    def look(self):
+        self.call('look')
+
+    def sums(self):
+        """The checksums of the EOFs that leave, in order."""
+        given = answers(self.run)
+        pdus = [pdu for a in given if a[0] in ('step', 'burst') for pdu in ([a[2]] if a[0] == 'step' else [p for p, _, _ in a[2]])]
+        return [pdu[9:13] for pdu in pdus if is_eof(pdu)]
 
     def done(self):
         lines.append('== ' + self.run.label)
@@ -253,7 +266,7 @@ def bursts_with_expiry():
 
 
 def long_bursts():
-    h = Host('sixteen data PDUs of 4,096 bytes in 65,536 bytes', (1, 7), len(BIG), BIG)
+    h = Host('sixteen data PDUs of 4,096 bytes in 65,536 bytes', (1, 7), 65400, BIG)
     h.entry = Entry((1, 2), packet=4096, segment=4096, checksum=3, limit=2)
     h.config['entries'] = [h.entry]
     h.put(False)
@@ -266,13 +279,137 @@ def long_bursts():
     h.burst(16, 1)
     assert [[len(pdu) for pdu, _, _ in a[2]] for a in answers(h.run) if a[0] == 'burst'] == [[17], [4096] * 16, [51, 17, 0], [4096] * 15, [4096, 0], [17, 0]]
     h.done()
+    h = Host('the same, another file lent for some', (1, 7), 65400, BIG)
+    h.entry = Entry((1, 2), packet=4096, segment=4096, checksum=2, limit=2)
+    h.config['entries'] = [h.entry]
+    h.put(False)
+    h.burst(8, 0)
+    h.lend(3999)
+    h.burst(5, 0)
+    h.look()
+    h.nak(7, (40, 49000))
+    h.burst(14, 0)
+    h.look()
+    h.lend(0)
+    h.burst(1, 0)
+    h.lend(3999)
+    h.burst(16, 0)
+    h.look()
+    h.lend(0)
+    h.burst(16, 1)
+    L, other = 4085, BIG[3999:]
+    left = BIG[:7 * L] + other[7 * L:14 * L] + BIG[14 * L:15 * L] + other[15 * L:65400]
+    assert h.sums() == [be(4, CHECKSUMS[2](left))] * 2
+    h.done()
+
+
+# ---- another file of the same length
+
+def changed_files():
+    h = Host("D28 of docs/DIFFERENCES.md: an EOF, a cancel's, a fault's", (1, 7), 5)
+    h.put(True, False)
+    h.steps(2, 0)
+    h.lend(20)
+    h.steps(2, 0)
+    h.lend(0)
+    h.put(True, False, checksum=3)
+    h.steps(2, 0)
+    h.cancel(1, 8)
+    h.lend(20)
+    h.steps(2, 0)
+    h.lend(0)
+    h.put(False, False, limit=1)
+    h.steps(4, 0)
+    h.lend(20)
+    h.steps(1, 1)
+    assert [sum.hex() for sum in h.sums()] == ['a6424344', 'db1720a5', '86424344', '86424344']
+    h.done()
+
+
+def changed_with(label, checksum):
+    h = Host(label, (1, 7), 10)
+    h.entry = Entry((1, 2), packet=17, segment=3, checksum=checksum, limit=2)
+    h.config['entries'] = [h.entry]
+    h.look()
+    h.put(False)
+    h.look()
+    h.steps(2, 0)
+    h.look()
+    h.lend(20)
+    h.steps(1, 0)
+    h.look()
+    h.nak(7, (0, 5), (0, 0))
+    h.look()
+    h.step(9, 0, ROOM)
+    h.step(10, 0, 3)
+    h.look()
+    h.steps(2, 0)
+    h.look()
+    h.burst(2, 0)
+    h.look()
+    h.lend(0)
+    h.step(10, 0, 3)
+    h.look()
+    h.lend(20)
+    h.burst(1, 0)
+    h.look()
+    h.lend(0)
+    h.steps(1, 0)
+    h.look()
+    h.lend(20)
+    h.steps(1, 1)
+    h.lend(0)
+    h.steps(1, 1)
+    h.look()
+    h.lend(20)
+    h.steps(1, 1)
+    h.ack_of_eof(7)
+    h.finished(7, 0x12)
+    h.look()
+    h.steps(1, 0)
+    h.look()
+    h.put(False)
+    h.look()
+    h.burst(3, 0)
+    h.look()
+    h.lend(0)
+    h.cancel(1, 8)
+    h.look()
+    h.steps(1, 0)
+    h.lend(20)
+    h.burst(16, 1)
+    h.look()
+    h.steps(1, 1)
+    h.look()
+    h.lend(0)
+    h.put(False)
+    h.burst(2, 0)
+    h.call('reset')
+    h.look()
+    h.lend(20)
+    h.put(True, True)
+    h.look()
+    h.burst(3, 0)
+    h.lend(0)
+    h.burst(16, 0)
+    h.look()
+    h.lend(20)
+    h.steps(1, 1)
+    h.look()
+    first, second, third = b'ABCdefghij', b'abcdef', b'abcdefGHIJ'
+    assert h.sums() == [be(4, CHECKSUMS[checksum](left)) for left in [first] * 4 + [second] * 2 + [third] * 2]
+    left = [first[:n] for n in (0, 0, 3, 6, 6, 6, 6, 9, 9, 10, 10, 10, 10, 0)] + [second[:n] for n in (0, 6, 6, 6, 0, 0, 0)] + [third, b'']
+    assert [a[1:] for a in answers(h.run) if a[0] == 'look'] == [(len(bytes), CHECKSUMS[checksum](bytes)) for bytes in left]
+    h.done()
 
 
 KEEP_ALIVE = '2a00073700001234000000000000000189abcdef0c00000000aab6'     # as the hosts have it
 
 if __name__ == '__main__':
-    for run in byte_cases, acknowledged, refusals, cancels, wide, bursts, short_bursts, bursts_with_expiry, long_bursts:
+    for run in byte_cases, acknowledged, refusals, cancels, wide, bursts, short_bursts, bursts_with_expiry, long_bursts, changed_files:
         run()
+    for name, checksum in (('modular', 0), ('CRC-32C', 2), ('CRC-32', 3), ('no checksum', 15)):
+        changed_with('another file of the same length, ' + name, checksum)
     for label, rounds in (('every byte 255', 4), ('random', 200), ('random, near a state', 1000)):
         lines.append('garbage, %s: %d of %d calls returned as they must' % (label, 14 * rounds, 14 * rounds))
     lines.append('one by one: 8000 of 8000 bursts as their steps')
