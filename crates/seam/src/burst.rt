@@ -1,5 +1,5 @@
 // A burst on the handler's memory as a value: up to sixteen steps, one after the other. A step whose PDU is a piece of a request is made in place (module `piece`); any other is
-// made by `tsendrivaty_step`, so that of all that a step needs nothing has two callers: the compiler would then inline it in neither, and copy the state for each call.
+// made by `tsendrivaty_step`, so that nothing that a step hands the state to has two callers: the compiler would then inline it in neither, and copy the state for each call.
 ghost use mathlib.Core.Path.{_≡_};
 ghost use Prim.Native.Nat.{_≤_};
 ghost use lib.Dec.{eqb, ltb};
