@@ -187,6 +187,23 @@ fn add_burst(answers: &mut [u8], put: usize, d: Bursted, space: &[u8]) -> usize 
     write::add_steps(answers, q, steps, count, space)
 }
 
+// Kind 7: four bytes of a place; `place_of` takes it.
+fn lend_call(s: State, calls: &[u8], at: usize, answers: &mut [u8], put: usize) -> Turn {
+    if !read::whole(calls, at, 4) {
+        return stopped(s, at, put, 2);
+    }
+    let p = write::add(answers, put, 1, 7);
+    stopped(s, read::on(at, 4), p, 0)
+}
+
+// The place in the file from which on the calls behind this one lend.
+fn place_of(calls: &[u8], at: usize, from: usize) -> usize {
+    if byte_at(calls, at) == 7 {
+        return read::length(calls, read::on(at, 1), 4);
+    }
+    from
+}
+
 // A record takes at most 4,648 bytes, that of a burst 5,155: 4,608 of PDUs and sixteen times 34; and two more close the answers.
 fn room_for(kind: u8) -> usize {
     if kind == 6 { 5200 } else { 4650 }
@@ -205,15 +222,17 @@ fn call(s: State, calls: &[u8], at: usize, file: &[u8], answers: &mut [u8], put:
         4 => cancel_call(s, calls, body, answers, put),
         5 => reset_call(s, body, answers, put),
         6 => burst_call(s, calls, body, file, answers, put),
+        7 => lend_call(s, calls, body, answers, put),
         _ => stopped(s, at, put, 1),
     }
 }
 
-// The list begins with the number that the handler is made with.
+// The list begins with the number that the handler is made with; files are lent from the first byte on.
 pub fn run(calls: &[u8], file: &[u8], answers: &mut [u8]) -> u64 {
     let mut s = source::new(read::number(calls, 0));
     let mut at: usize = 9;
     let mut put: usize = 0;
+    let mut from: usize = 0;
     let mut status: u8 = if calls.len() < 9 { 2 } else { 0 };
     let mut k = 0;
     while k < calls.len() {
@@ -224,8 +243,9 @@ pub fn run(calls: &[u8], file: &[u8], answers: &mut [u8]) -> u64 {
             break;
         }
         k += 1;
-        let t = call(s, calls, at, file, answers, put);
+        let t = call(s, calls, at, part_of(file, from, file.len()), answers, put);
         s = t.state;
+        from = place_of(calls, at, from);
         at = t.at;
         put = t.put;
         status = t.status;

@@ -7,10 +7,10 @@ use Rattle.host.proofs.run.run.Statement.{statement}
 use Rattle.host.proofs.run.run.Tie as tie
 
 abbrev Inv-loop : tie.InvT-loop
-Inv-loop calls file answers₀ s₀ at₀ put₀ status₀ k₀ answers s at put status k = length answers ≡ length answers₀
+Inv-loop calls file answers₀ s₀ at₀ put₀ from₀ status₀ k₀ answers s at put from status k = length answers ≡ length answers₀
 
 abbrev μ-loop : tie.MeasureT-loop
-μ-loop calls file answers₀ s₀ at₀ put₀ status₀ k₀ answers s at put status k = length calls - k
+μ-loop calls file answers₀ s₀ at₀ put₀ from₀ status₀ k₀ answers s at put from status k = length calls - k
 
 number-requires : tie.Need-number-requires Inv-loop μ-loop
 number-requires c κs = search needs
@@ -24,8 +24,14 @@ loop-holds c = search needs
 add-k : tie.Need-add-k Inv-loop μ-loop
 add-k c = search needs
 
+part-of-requires : tie.Need-part-of-requires Inv-loop μ-loop
+part-of-requires c κs = search needs
+
 call-requires : tie.Need-call-requires Inv-loop μ-loop
 call-requires c κs = search needs
+
+place-of-requires : tie.Need-place-of-requires Inv-loop μ-loop
+place-of-requires c κs = search needs
 
 loop-less : tie.Need-loop-less Inv-loop μ-loop
 loop-less c = search needs
@@ -58,7 +64,9 @@ run-spec =
     new-requires
     loop-holds
     add-k
+    part-of-requires
     call-requires
+    place-of-requires
     loop-less
     loop-again
     add-requires
