@@ -1,16 +1,16 @@
 """Lists of calls in the bytes of docs/HOST.md, what the model answers to them, and both as readable lines.
 
 A call is a tuple: ('put', Config, Request, S, source name, destination name), ('deliver', bytes), ('step', expired, lent, room),
-('cancel', source id, number), ('reset',), ('burst', expired, count, lent, room), ('raw', bytes) for bytes that are no call. A run is a label, the first
-number, a file and calls.
+('cancel', source id, number), ('reset',), ('burst', expired, count, lent, room), ('lend', place): from here on files are lent from this place of the run's
+file on, so that a step can lend other bytes of the same length; ('raw', bytes) for bytes that are no call. A run is a label, the first number, a file and
+calls.
 
-Two more are for the seam's hosts alone (tests/seam); crate `host` does not know them. ('lend', place): from here on files are lent from this place of the
-run's file on, so that a step can lend other bytes of the same length. ('look',): what the record holds, progress and running checksum.
+One more is for the seam's hosts alone (tests/seam); crate `host` does not know it: ('look',), what the record holds, progress and running checksum.
 """
 from model import Entry, Handler, be
 
 ROOM = 4608     # an out buffer is not made longer
-LEND, LOOK = 64, 65      # the kinds of the two
+LEND, LOOK = 7, 65
 EVENTS = {'transaction': 1, 'eof-sent': 2, 'fault': 4, 'finished': 8, 'ack-timer': 16, 'check-timer': 32}
 
 
@@ -72,7 +72,7 @@ def answers(run):
         kind, args = call[0], call[1:]
         if kind == 'raw':
             # an unknown kind, or a known one cut short
-            return given + [('end', 2 if args[0][0] in range(1, 7) else 1)]
+            return given + [('end', 2 if args[0][0] in range(1, 8) else 1)]
         if kind == 'step':
             refusal, pdu, events = model.step(bool(args[0]), run.file[place:place + args[1]], min(args[2], ROOM))
             given.append(('step', refusal, pdu, events, model.who if events else None))

@@ -8,7 +8,7 @@ The answers are the model's (tests/model.py), none is the handler's; `want` in a
 import copy, os, random
 from calls import Run, answer_line, answers, list_bytes
 from model import CLOSING, DATA, EOF, EOF_ACK, FINISHED, IDLE, METADATA, Config, Entry, Handler, Header, Request, be
-from random_passes import random_run
+from random_passes import random_run, with_changes
 from stream import LIMIT, run_bytes
 
 OUT = os.path.join(os.path.dirname(os.path.abspath(__file__)), '..', 'crates', 'passes')
@@ -18,10 +18,11 @@ runs = []
 
 
 class Pass:
-    """A run being written, with the model beside it. The default put is document 01's byte cases, acknowledged."""
+    """A run being written, with the model beside it. The default put is document 01's byte cases, acknowledged. `other` is another file of the same length."""
 
-    def __init__(self, label, number=(1, 7), file=FILE, **entry):
-        self.model, self.file, self.number, self.run = Handler(number), file, number, Run(label, number, file, [])
+    def __init__(self, label, number=(1, 7), file=FILE, other=b'', **entry):
+        self.model, self.file, self.number, self.run = Handler(number), file, number, Run(label, number, file + other, [])
+        self.place = 0
         self.entry = dict(packet=17, segment=4, limit=2)
         self.entry.update(entry)
         runs.append(self.run)
@@ -83,7 +84,7 @@ class Pass:
             lent = len(self.file) if lent is None else lent
             call = ('step', expired, lent, room)
             self.run.calls.append(call)
-            refusal, got, events = self.model.step(bool(expired), self.file[:lent], room)
+            refusal, got, events = self.model.step(bool(expired), self.lent(lent), room)
             assert refusal == want, (self.run.label, len(self.run.calls), refusal, want)
         if pdu is not None:
             assert got.hex(' ').upper() == pdu, (self.run.label, got.hex(' ').upper(), pdu)
@@ -95,7 +96,7 @@ class Pass:
         """One burst, by hand: the steps' lengths, the names of their events, and their PDUs in hex."""
         lent = len(self.file) if lent is None else lent
         self.run.calls.append(('burst', expired, count, lent, room))
-        refusal, made = self.model.burst(bool(expired), count, self.file[:lent], room)
+        refusal, made = self.model.burst(bool(expired), count, self.lent(lent), room)
         got = refusal, [len(pdu) for pdu, _, _ in made]
         assert got == (want, list(lengths)), (self.run.label, len(self.run.calls), got, want, lengths)
         if told is not None:
@@ -107,7 +108,7 @@ class Pass:
 
     def exact(self, **other):
         """The step that is due, refused for an out buffer one byte short, then made in one that it fills."""
-        due = copy.deepcopy(self.model).step(bool(other.get('expired')), self.file, MAX)[1]
+        due = copy.deepcopy(self.model).step(bool(other.get('expired')), self.lent(len(self.file)), MAX)[1]
         assert due
         return self.step(want=31, room=len(due) - 1, **other).step(room=len(due), **other)
 
@@ -119,6 +120,15 @@ class Pass:
 
     def reset(self):
         return self.call(None, 'reset')
+
+    def lent(self, n):
+        return self.run.file[self.place:self.place + n]
+
+    def lend(self, other):
+        """From here on the other file, or the file."""
+        self.place = len(self.file) * other
+        self.run.calls.append(('lend', self.place))
+        return self
 
     def raw(self, data):
         self.run.calls.append(('raw', data))
@@ -322,6 +332,15 @@ for kind, name, part, whole in [(0, 'modular', '66 68 33 34', '9F 68 6A 6C'), (2
     p.step(3).nak((0, 5), (0, 0)).step(want=31, room=11).step(want=30, lent=8).step(3).cancel().step(pdu='20 00 0A 00 01 07 02 04 F0 %s 00 00 00 06' % part)
     p.step(expired=1, pdu='20 00 0A 00 01 07 02 04 F0 %s 00 00 00 06' % part).reset().put().step(2).reset().put().step(2).nak((1, 3)).burst(4, [13, 14, 14, 17]).at(EOF_ACK)
     p.step(expired=1, pdu='20 00 0A 00 01 09 02 04 00 %s 00 00 00 09' % whole).step(expired=1, pdu='20 00 0A 00 01 09 02 04 10 %s 00 00 00 09' % whole)
+for kind, name, mixed, part in [(0, 'modular', 'A6 42 43 44', '41 42 43 44'), (2, 'CRC-32C', '96 12 6F 5D', 'FB 9F 88 72'),
+                                (3, 'CRC-32', '49 BD 3A 1D', 'DB 17 20 A5'), (15, 'null', '00 00 00 00', '00 00 00 00')]:
+    # ABCD leaves of the file, e of the other; a repair of the other leaves the checksum; the EOF and the repeated one are of ABCDe, that of a cancel behind ABCD of ABCD
+    eof = '20 00 0A 00 01 %02X 02 04 %s %s 00 00 00 %02X'
+    p = Pass(f'another file of the same length lent on the way, checksum {name}', other=b'abcde', checksum=kind).put().step(2).nak((1, 4)).lend(True)
+    p.step(pdu='30 00 07 00 01 07 02 00 00 00 01 62 63 64').step(pdu='30 00 05 00 01 07 02 00 00 00 04 65').lend(False).step(pdu=eof % (7, '00', mixed, 5))
+    p.lend(True).step(expired=1, pdu=eof % (7, '00', mixed, 5)).nak((4, 5)).lend(False).step(pdu='30 00 05 00 01 07 02 00 00 00 04 45')
+    p.step(expired=1, pdu=eof % (7, '10', mixed, 5)).reset().put().step(2).cancel().lend(True).step(pdu=eof % (8, 'F0', part, 4)).reset().lend(False)
+    p.put().burst(2, [17, 15]).lend(True).burst(16, [12, 17, 0], pdus=['30 00 05 00 01 09 02 00 00 00 04 65', eof % (9, '00', mixed, 5), ''])
 p = Pass('modular sum that wraps', file=b'\xff' * 14, segment=6).put().to(EOF_ACK)
 p = Pass('S = 0, acknowledged', file=b'').put().step().at(EOF).nak((0, 0), (0, 0)).nak((0, 1), want=24).step(3).at(EOF_ACK).nak((0, 0)).step().ack().finished().step()
 p.put(checksum=2, packet=30).step().cancel().step()
@@ -375,21 +394,25 @@ p.burst(16, [17] + [13] * 15, room=212).burst(15, [13] * 15).at(EOF).nak(*[(2 * 
 
 # ---- what is no call
 
-Pass('a kind that is unknown').put().raw(b'\x07\0\0')
+Pass('a kind that is unknown').put().raw(b'\x08\0\0')
 Pass('a step cut short').put().step().raw(b'\x03\0\0\0\0\5')
 Pass('a delivery cut short').put().raw(b'\x02\0\0\0\5abcd')
 Pass('a cancel cut short').put().raw(b'\x04' + bytes(17))
 Pass('a burst cut short').put().burst(2, [17, 15]).raw(b'\x06\0\x10' + bytes(7))
+Pass('a place to lend from cut short').put().lend(True).raw(b'\x07\0\0\0')
 Pass('a put cut short').raw(b'\x01' + bytes(273))
 Pass('no calls')
 
 # ---- seeded runs
 
 SEED = 727
-for k in range(36):
+for k in range(30):
     runs.append(random_run(random.Random(SEED * 1000 + k), f'random {k}', 1100))
 for k in range(8):
     runs.append(random_run(random.Random(SEED * 2000 + k), f'random with bursts {k}', 900, bursts=True))
+for k in range(5):
+    rng = random.Random(SEED * 3000 + k)
+    runs.append(with_changes(rng, random_run(rng, f'random with other files lent {k}', 900, bursts=True), looks=False))
 
 
 if __name__ == '__main__':

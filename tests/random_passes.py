@@ -1,11 +1,11 @@
 #!/usr/bin/env python3
 """Runs random lists of calls through the built program `drive` and holds its answers to the model's.
 
-    python3 tests/random_passes.py N SEED [PROGRAM [changes]]
+    python3 tests/random_passes.py N SEED [PROGRAM]
 
-N lists, each of about 48,000 bytes: some sixty transactions on one handler over one file. PROGRAM is target/bin/drive if not given. With `changes` other
-files of the same length are lent within a transaction, and the record is looked at; `drive` has no call for it, target/hosts/calls has (tests/link builds
-it). The first difference is made small by leaving calls out, and printed in readable form; then the status is 1.
+N lists, each of about 48,000 bytes: some sixty transactions on one handler over one file; then N in which other files of the same length are lent within a
+transaction. PROGRAM is target/bin/drive if not given. The first difference is made small by leaving calls out, and printed in readable form; then the status
+is 1.
 """
 import copy, os, platform, random, subprocess, sys
 from calls import LEND, LOOK, Run, answer_bytes, answer_line, answers, call_bytes, call_line, list_bytes
@@ -205,16 +205,16 @@ def random_run(rng, label, budget, size=None, room=60000, bursts=False):
 
 # ---- other files of the same length
 
-def with_changes(rng, run):
-    """The same calls over a file three times as long, of which a part is lent: in front of some calls another part than before. And looks at the record. What is lent
-    has no say in which calls are sensible, so they still are."""
+def with_changes(rng, run, looks):
+    """The same calls over a file three times as long, of which a part is lent: in front of some calls another part than before. And looks at the record, if these
+    are wanted. What is lent has no say in which calls are sensible, so they still are."""
     size, often = len(run.file), rng.choice([0.02, 0.1, 0.4])
     calls = []
     for call in run.calls:
         if rng.random() < often:
             calls.append(('lend', rng.randrange(2 * size + 1)))
         calls.append(call)
-        if rng.random() < 0.2:
+        if looks and rng.random() < 0.2:
             calls.append(('look',))
     return Run(run.label, run.number, run.file + rng.randbytes(2 * size), calls)
 
@@ -323,14 +323,14 @@ def show(program, run):
             return
 
 
-def compare(program, count, seed, changes=False):
+def compare(program, count, seed, changes=False, looks=False):
     """1 if a list differs. `program` is the words that start it."""
     calls = puts = bursted = changed = mixed = 0
     for k in range(count):
         rng = random.Random(seed * 1000003 + k)
         run = random_run(rng, '', 48000, rng.choice([5, 64, 200, 300, 300, 6000]), bursts=True)
         if changes:
-            run = with_changes(rng, run)
+            run = with_changes(rng, run, looks)
             changed += sum(c[0] == 'lend' for c in run.calls)
             mixed += mixed_eofs(run)
         if differs(program, run):
@@ -347,7 +347,8 @@ def compare(program, count, seed, changes=False):
 
 def main():
     program = command(os.path.abspath(sys.argv[3] if len(sys.argv) > 3 else os.path.join(ROOT, 'target', 'bin', 'drive')))
-    return compare(program, int(sys.argv[1]), int(sys.argv[2]), sys.argv[4:] == ['changes'])
+    count, seed = int(sys.argv[1]), int(sys.argv[2])
+    return compare(program, count, seed) or compare(program, count, seed, changes=True)
 
 
 if __name__ == '__main__':

@@ -1,6 +1,6 @@
 /* The lists of calls of docs/HOST.md, run through the seven functions: what the program `drive` does, over lent memory. So tests/random_passes.py can hold
- * thousands of random calls through the seam to the model. Standard input: four bytes of the file's length, the file, the number, the calls. Two kinds of
- * its own: 64, four bytes of a place, files are lent from there on from now on; 65, answers with what the record holds, progress (8) and checksum (4). */
+ * thousands of random calls through the seam to the model. Standard input: four bytes of the file's length, the file, the number, the calls. A kind of
+ * its own: 65, answers with what the record holds, progress (8) and checksum (4). */
 #include "../../include/tsendrivaty.h"
 
 long read(int, void *, size_t);
@@ -129,7 +129,7 @@ int main(void) {
             say(1, tsendrivaty_cancel(&h, s.width, s.value, n.width, n.value));
         } else if (kind == 6) {
             burst(in + file + from, length - from);
-        } else if (kind == 64) {
+        } else if (kind == 7) {
             from = least(take(4), length);
         } else if (kind == 65) {
             look();
