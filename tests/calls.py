@@ -149,7 +149,7 @@ def answer_line(a):
         return 'cancel ' + ('yes' if a[1] else 'no')
     if a[0] == 'look':
         return 'look %d %08x' % a[1:]
-    return 'reset' if a[0] == 'reset' else '%s %d' % a
+    return a[0] if a[0] in ('reset', 'lend') else '%s %d' % a
 
 
 def call_line(call):

@@ -154,6 +154,10 @@ fn line(s: &[u8], at: usize, ids: Ids) -> usize {
             body
         }
         6 => bursted(s, body, ids),
+        7 => {
+            io::write_all(1, b"  lend\n");
+            body
+        }
         255 => refusal(b"  end", s, body),
         _ => {
             io::write_all(1, b"  no answer\n");
