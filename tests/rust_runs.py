@@ -72,6 +72,7 @@ def put_bytes(k, entries, size, nosrc):
 
 class OurCalls:
     """The calls of ours, as docs/HOST.md has them: `number` and `file`; and for each call of the Rust its verb, our bytes, and how many steps are in them.
+    Of a file behind the first the verb is `lend`: it stands behind the others in `file`, and is lent from its place on.
 
     The Rust's calls send 0, 1 or 2 PDUs, and a delivery also steps: a call that sent k PDUs is max(k, 1) of our steps, a delivery
     that many after it; the Rust's cancel sends at once, so ours is a cancel and, if accepted, one step. Expiry is a level: `expire` shows it to every
@@ -82,20 +83,24 @@ class OurCalls:
         self.keys = keys(run[0][0])
         self.entries = [keys(line) for line, _ in run if line.startswith('entry ')]
         self.number, self.file, self.calls = wide(self.keys['sw'], self.keys['seq']), b'', []
-        size, expired, was = 0, False, 'Idle'
+        size, lent, expired, was = 0, 0, False, 'Idle'
         for line, answer in run:
             verb, _, rest = line.partition(' ')
             if verb in ('case', 'entry'):
                 continue
-            if verb in ('file', 'size'):
-                self.file, size = (bytes.fromhex(rest), len(rest) // 2) if verb == 'file' else (self.file, int(rest))
+            if verb == 'size':
+                size = int(rest)
+            if verb == 'file':
+                size = lent = len(rest) // 2
+                verb, rest = ('lend', len(self.file)) if self.file else (verb, rest)
+                self.file += bytes.fromhex(line[5:])
             now = answer[-1].split()[-1]
             if verb == 'expire':
                 expired = True
             elif verb == 'deliver' and was == 'WaitingForEofAck' and now == 'WaitingForFinished':
                 expired = False                                 # the ack timer is stopped
             call, steps = self.call(verb, rest, size), self.steps(verb, answer)
-            step = b'\3' + bytes([expired]) + u(4, len(self.file)) + u(4, 4608)
+            step = b'\3' + bytes([expired]) + u(4, lent) + u(4, 4608)
             self.calls.append((verb, call + step * steps, steps))
             if timers(answer):
                 expired = False
@@ -109,6 +114,8 @@ class OurCalls:
             return b'\2' + u(4, len(rest) // 2) + bytes.fromhex(rest)
         if verb == 'cancel':
             return b'\4' + wide(self.keys['w'], self.keys['src']) + wide(self.keys['sw'], rest)
+        if verb == 'lend':
+            return b'\7' + u(4, rest)
         return b'\5' if verb == 'reset' else b''
 
     def steps(self, verb, answer):

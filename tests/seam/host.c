@@ -493,11 +493,10 @@ static void changed_files(void) {
     steps(2, 0);
     lend(0);
     m.h.config.remotes[0].checksum = TSENDRIVATY_MODULAR;
-    m.h.config.remotes[0].limit = 1;
     put(0, 0);
     steps(4, 0);
     lend(20);
-    steps(1, 1);
+    steps(2, 1);
 }
 
 /* Pieces of three bytes, so that progress is no multiple of four. */

@@ -517,12 +517,11 @@ impl Host {
         self.lend(20);
         self.steps(2, false);
         self.lend(0);
-        let entry = &mut self.m.around.h.config.remotes[0];
-        (entry.checksum, entry.limit) = (0, 1);
+        self.m.around.h.config.remotes[0].checksum = 0;
         self.put(false, Some(false));
         self.steps(4, false);
         self.lend(20);
-        self.steps(1, true);
+        self.steps(2, true);
     }
 
     /// Pieces of three bytes, so that progress is no multiple of four.

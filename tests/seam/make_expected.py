@@ -318,11 +318,11 @@ def changed_files():
     h.lend(20)
     h.steps(2, 0)
     h.lend(0)
-    h.put(False, False, limit=1)
+    h.put(False, False)
     h.steps(4, 0)
     h.lend(20)
-    h.steps(1, 1)
-    assert [sum.hex() for sum in h.sums()] == ['a6424344', 'db1720a5', '86424344', '86424344']
+    h.steps(2, 1)
+    assert [sum.hex() for sum in h.sums()] == ['a6424344', 'db1720a5', '86424344', '86424344', '86424344']
     h.done()
 
 
