@@ -2,7 +2,7 @@
 -- The idea: `plan` is the list of PDUs still to be sent besides repairs, `answers` of the pending list is the list still owed; an unrefused step takes
 -- the head of one of the two, an accepted NAK appends to the second, and nothing else changes them.
 -- Assumes nothing.
-use mathlib.Core.Path.{_≡_, refl, sym, _∙_}
+use mathlib.Core.Path.{_≡_, refl, sym, ap₂, _∙_}
 use mathlib.Core.Bool.{Bool, true, false, true≢false}
 use mathlib.Core.List.{List, [], _∷_, _++_, append-nil, cons≢nil}
 use mathlib.Core.Option.{some}
@@ -250,7 +250,7 @@ module _ (w : Transfer) (s : State) (i : Inv w s) where
     eof-is : s .file .progress ≡ length (w .file) → EofPdu (eofFor s 0 (s .fixed .size)) ≡ lastly w
     eof-is e =
         let k : s .file .sum ≡ sumOf (w .type) (w .file) = i .sum ∙ rw (i .sends .type-is, e, take-length (w .file)) refl in
-        rw (k, i .sends .size-is) refl
+        ap₂ (λ (v n : ℕ). EofPdu (record { condition = 0; sum = v; size = n })) k (i .sends .size-is)
 
     closed : (d : Sending) (t : State) → d ≡ lastly w → Does w (pending (s .queue)) SendingEof (s .file .progress) d t
     closed d t e = rw e (closes t none-left refl)

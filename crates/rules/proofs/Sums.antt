@@ -6,7 +6,7 @@ use mathlib.Core.Logic.{_⊎_, inl, inr}
 use mathlib.Core.Bool.{Bool, true, false, false≢true}
 use mathlib.Core.List.{List, [], _∷_, _++_}
 use mathlib.Core.Option.{Option, none, some}
-use Prim.Native.Nat.{ℕ, zero, suc, _+_, _≤_, _<_}
+use Prim.Native.Nat.{ℕ, zero, suc, _+_, _^_, _≤_, _<_}
 use native.Mathlib.Omega.{arith}
 use lib.Dec.{eqb}
 use lib.ListN.{length, take, drop, length-append, length-take, length-drop}
@@ -54,12 +54,13 @@ use Rattle.types.specs.declared.Answer.the-variants.{Accepted, Refused}
 use Rattle.types.specs.declared.Stepped.{Stepped}
 use Rattle.rules.proofs.Tells.{tells-idle}
 use Rattle.rules.proofs.Exactly.{numbered, step-keeps}
-use Rattle.rules.proofs.Outcomes.{cancel-by, delivered-by}
+use Rattle.rules.proofs.Outcomes.{answer-by, state-by, cancel-by, delivered-by}
 use Rattle.rules.proofs.Emits.{lent-length}
 use Rattle.rules.proofs.Singly.{run, end, singly, as-run, as-end, as-proper, as-lends, LendsAll}
 use Rattle.rules.proofs.Summed.{nextPiece, sum-behind, OfFile, of-file-on}
 use Rattle.rules.proofs.Makes.{put-makes}
 use Rattle.rules.proofs.Applies.{due-applies}
+use Rattle.rules.proofs.GoodPut.{put-good}
 use Rattle.rules.proofs.Good.{good-kept, always-good}
 use Rattle.rules.proofs.Says.{step-taken, due-says, answer-no-eof, close-no-eof}
 
@@ -501,13 +502,23 @@ module _ (file : List ℕ) where
   said-before s expired g (inl e) = subst (λ (d : Due). named s file d ≡ namedBefore s file d) (sym (idle-due s expired g e)) refl
   said-before s expired g (inr k) = due-before s g k expired (dueOf s expired) (due-applies s expired)
 
+-- an accepted put leaves a good state, whatever it found
+started-good : (h : State) (c : LocalEntityConfig) (q : PutRequest) (source destination : List ℕ) (S : ℕ) → S < 2 ^ 64 → putSpec h c q source destination S .answer ≡ Accepted
+    → Good (putSpec h c q source destination S .state)
+unfolding putSpec
+started-good h c q source destination S l a =
+    let t = putState h c q source destination S in
+    let x = putAnswer h c q source destination S in
+    let e : x ≡ Accepted = sym (answer-by h t x) ∙ a in
+    subst Good (sym (state-by h t x e)) (put-good h c q source destination S l e)
+
 pub same-link : SameLink
-same-link h c q source destination file g b l a cs p f n expired out x =
+same-link h c q source destination file b l a cs p f n expired out x =
     let s = putSpec h c q source destination (length file) .state in
     let t = behind cs s in
     let m = put-makes h c q source destination (length file) a in
     let of : OfFile file s = m .sum ∙ sym (goes-on .0 (s .fixed .checksum)) ∙ ap (λ (v : ℕ). sumOf (s .fixed .checksum) (take v file)) (sym (m .progress)) in
-    let r = run-lent file (singly cs s) s (as-proper cs s p) (as-lends file cs s f) (rw (as-run cs s) at n) (good-kept .put h c q source destination (length file) l g)
+    let r = run-lent file (singly cs s) s (as-proper cs s p) (as-lends file cs s f) (rw (as-run cs s) at n) (started-good h c q source destination (length file) l a)
     (inr (m .copied .0, of)) in
     let y : Good t × Lent file t = rw (as-end cs s) r in
     due-says .written t file expired out (λ _. y .0 .queue) x ∙ ap (bytesOf (t .fixed .head)) (said-before file t expired (y .0) (y .1))

@@ -1,5 +1,5 @@
 -- Request R-2, "Keep the running checksum of the first-pass bytes": of which bytes the stored number is, that nothing changes on the link while the same file is lent,
--- and that a step reads no byte of the file but those that it sends. Proofs: proofs/Sums.antt, Joined.antt.
+-- and that a step reads no byte of the file but those that it sends. What is said here of a step holds of each step of a burst: these are the same steps (burst-is-steps). Proofs: proofs/Sums.antt, Joined.antt.
 -- Assumes nothing.
 use mathlib.Core.Path.{_≡_}
 use mathlib.Core.Bool.{Bool, true}
@@ -18,7 +18,7 @@ use Rattle.rules.specs.Step.{dueOf, sendingOf, stepSpec, stepBytes}
 use Rattle.rules.specs.Cancel.{newSpec}
 use Rattle.rules.specs.Runs.{Call, Shown, turned, began, took, went, ended, trace, behind, Lends, firstPass, NoPut, BeforeEof}
 use Rattle.rules.specs.Demand.{transferOf, Tiled}
-use Rattle.rules.specs.Good.{Good, Proper}
+use Rattle.rules.specs.Good.{Proper}
 use Rattle.rules.specs.Says.{named, bytesOf, pduOf, IsEof}
 use Rattle.types.specs.declared.TransactionSeqNum.{TransactionSeqNum}
 use Rattle.types.specs.declared.LocalEntityConfig.{LocalEntityConfig}
@@ -110,7 +110,7 @@ namedBefore s file Nothing = none
 abbrev pub SameLink : Type 0
 SameLink =
     (h : State) (c : LocalEntityConfig) (q : PutRequest) (source destination file : List ℕ)
-    → Good h → Bytes file → length file < 2 ^ 64
+    → Bytes file → length file < 2 ^ 64
     → putSpec h c q source destination (length file) .answer ≡ Accepted
     → (cs : List Call) → Proper cs → Lends file cs
     → let s = putSpec h c q source destination (length file) .state in

@@ -63,7 +63,7 @@ fn emit_metadata(s: State, out: &mut [u8]) -> Written
     emit_named(head, closure, s.fixed.checksum, s.fixed.size, s.names, out)
 }
 
-// The bytes of the file from the offset on, as many as are there; each is read once.
+// The bytes of the file from the offset on, as many as are there.
 fn emit_file_data(head: Head, file: &[u8], offset: u64, length: u64, out: &mut [u8]) -> Written
     ensures { λ r. ⌜ r ≡ writtenOf (encode head (fileData offset (take length (drop offset (now (file .entry)))))) (now (out .entry)) ⌝ }
     ensures { λ r. ⌜ now (out .exit) ≡ inFront (encode head (fileData offset (take length (drop offset (now (file .entry)))))) (now (out .entry)) ⌝ }
