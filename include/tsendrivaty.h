@@ -13,7 +13,8 @@
  *    handler nor a slice.
  *  - One call at a time on one handler. Different handlers know nothing of each other.
  *  - From an accepted put until the step is Idle again, lend the same file, unchanged, at every step and burst. Only its length is tested (30). Of other bytes
- *    of the same length each data PDU carries those lent at its own step, and the EOF the checksum of what left: the peer takes that for the file.
+ *    of the same length each data PDU carries those lent at its own step, and the EOF the checksum of the first-pass bytes that left: a peer that
+ *    got these takes them for the file.
  *  - Expiry is a level: once the timer has run out, say `expired` at every step and burst until a report starts a timer again.
  *  - After each accepted step take report.length bytes from the front of `out` and send them, before you lend `out` again; after an accepted burst
  *    those of all its steps.

@@ -17,7 +17,7 @@
 extern "C" {
 #endif
 
-/* Makes a fresh handler, runs the calls in order, each step over the front of `file`, and writes a record for each call into `answers`, behind them 255
+/* Makes a fresh handler, runs the calls in order, each step over the front of `file` or from a place on that the list says, and writes a record for each call into `answers`, behind them 255
  * and the status: 0 if all were run. Returns how many bytes of `answers` it wrote. Any bytes are a list: one that is cut short, or has an unknown call, is
  * run as far as it goes, and so is one whose answers have no room; room for 5,200 bytes a call is enough for every list. */
 uint64_t tsendrivaty_run(const uint8_t *calls, size_t calls_length, const uint8_t *file, size_t file_length, uint8_t *answers, size_t answers_length);
