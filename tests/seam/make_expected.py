@@ -10,7 +10,7 @@ import os, re, sys
 HERE = os.path.dirname(os.path.abspath(__file__))
 sys.path.insert(0, os.path.dirname(HERE))
 import calls
-from calls import Run, answer_line, answers
+from calls import Run, answer_line, answers, call_line
 from model import CHECKSUMS, Config, Entry, Header, Request, be
 from random_passes import is_eof
 
@@ -86,7 +86,9 @@ class Host:
 
     def done(self):
         lines.append('== ' + self.run.label)
-        lines.extend(re.sub(r'\b[0-9a-f]{129,}\b', short, answer_line(a)) for a in answers(self.run)[:-1])
+        for call, answer in zip(self.run.calls, answers(self.run)):
+            line = call_line(call) if call[0] == 'lend' else answer_line(answer)
+            lines.append(re.sub(r'\b[0-9a-f]{129,}\b', short, line))
 
 
 def byte_cases():
