@@ -61,14 +61,17 @@ idle-mark : (s : State) → s ≡ idle (s .number) → s .marks .cancelled ≡ f
 unfolding idle
 idle-mark s e = ap (λ (t : State). t .marks .cancelled) e
 
+pub awake-under : (k : TransactionStep) (s : State) → At k s → ¬ (k ≡ Idle) → Under s
+awake-under Idle s h n = absurd (n refl)
+awake-under SendingMetadata s h n = h .0
+awake-under SendingFileData s h n = h .0
+awake-under SendingEof s h n = h .0
+awake-under WaitingForEofAck s h n = h .0
+awake-under WaitingForFinished s h n = h .0
+awake-under Closing s h n = h .0
+
 pub under : (k : TransactionStep) (s : State) → At k s → s .marks .cancelled ≡ true → Under s
-under Idle s h c = absurd (true≢false (sym c ∙ idle-mark s h))
-under SendingMetadata s h c = h .0
-under SendingFileData s h c = h .0
-under SendingEof s h c = h .0
-under WaitingForEofAck s h c = h .0
-under WaitingForFinished s h c = h .0
-under Closing s h c = h .0
+under k s h c = awake-under k s h (λ e. true≢false (sym c ∙ idle-mark s (subst (λ (j : TransactionStep). At j s) e h)))
 
 -- ---- a step
 
@@ -322,7 +325,7 @@ good-kept =
       reset = λ s g. good-idle (s .number);
     }
 
-call-good : (c : Call) (s : State) → ProperCall c → Good s → Good (afterCall c s)
+pub call-good : (c : Call) (s : State) → ProperCall c → Good s → Good (afterCall c s)
 call-good (one (put c q source destination S)) s p g = good-kept .put s c q source destination S p g
 call-good (one (deliver bytes)) s p g = good-kept .deliver s bytes p g
 call-good (one (step lent expired out)) s p g = good-kept .step s lent expired (length out) p g

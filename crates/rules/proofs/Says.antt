@@ -30,14 +30,14 @@ use Rattle.types.specs.declared.Head.{Head}
 use Rattle.types.specs.declared.SegmentRequest.{SegmentRequest}
 use Rattle.types.specs.declared.State.{State}
 use Rattle.types.specs.declared.TransactionStep.{TransactionStep}
-use Rattle.types.specs.declared.TransactionStep.the-variants.{Idle, SendingMetadata, SendingFileData, SendingEof, WaitingForEofAck, WaitingForFinished, Closing}
+use Rattle.types.specs.declared.TransactionStep.the-variants.{SendingMetadata, SendingFileData, SendingEof, WaitingForEofAck, WaitingForFinished, Closing}
 use Rattle.types.specs.declared.Due.{Due}
 use Rattle.types.specs.declared.Due.the-variants.{CancelEof, Repair, Metadata, Data, NoErrorEof, EofAgain, FaultCancel, FaultIgnore, FaultAbandon, Close, Nothing}
 use Rattle.types.specs.declared.Sending.the-variants.{Nothing as NoPdu, Metadata as MetadataPdu, FileData, AckFinished}
 use Rattle.types.specs.declared.Answer.the-variants.{Accepted}
 use Rattle.types.specs.declared.Stepped.{Stepped}
 use Rattle.rules.proofs.Pending.{Formed, pending-first}
-use Rattle.rules.proofs.Good.{under}
+use Rattle.rules.proofs.Good.{awake-under, under}
 use Rattle.rules.proofs.PutExactly.{type-small}
 use Rattle.rules.proofs.Makes.{refused≢accepted}
 use Rattle.rules.proofs.Applies.{due-applies}
@@ -105,13 +105,7 @@ module _ (s : State) (file : List ℕ) (g : Good s) (y : Bytes file) where
   -- what is pending is there while a transaction is under way
   under-pending : (k : TransactionStep) → At k s → 0 < s .queue .count → Under s
   unfolding idle
-  under-pending Idle p n = absurd (let e = ap (λ (t : State). t .queue .count) p in omega arith)
-  under-pending SendingMetadata p n = p .0
-  under-pending SendingFileData p n = p .0
-  under-pending SendingEof p n = p .0
-  under-pending WaitingForEofAck p n = p .0
-  under-pending WaitingForFinished p n = p .0
-  under-pending Closing p n = p .0
+  under-pending k p n = awake-under k s p (λ i. let e = ap (λ (t : State). t .queue .count) (subst (λ (j : TransactionStep). At j s) i p) in omega arith)
 
   at : (k : TransactionStep) → s .step ≡ k → At k s
   at k e = subst (λ (j : TransactionStep). At j s) e (g .here)

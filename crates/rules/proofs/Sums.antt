@@ -29,8 +29,8 @@ use Rattle.rules.specs.Refusals.{answerNo, byAnswer}
 use Rattle.rules.specs.Deliver.{byVerdict, verdictOf, asked, deliverSpec}
 use Rattle.rules.specs.Step.{eofOwed, dueOf, nextLength, sumBehind, faultMarked, afterCancelEof, afterMetadata, afterData, afterEof, afterOf, sendingOf, bytesFor, performed, stepSpec, stepBytes}
 use Rattle.rules.specs.Cancel.{resetSpec, newSpec}
-use Rattle.rules.specs.Runs.{Single, put, deliver, step, cancel, reset, Call, Shown, turned, began, took, went, ended, after, unless, pduIn, shows, trace, behind, All, LendsIn, NoPut}
-use Rattle.rules.specs.Good.{AllOwe, Under, At, Good, ProperSingle, Proper}
+use Rattle.rules.specs.Runs.{Single, put, deliver, step, cancel, reset, Call, one, Shown, turned, began, took, went, ended, after, unless, pduIn, shows, trace, behind, All, LendsIn, NoPut}
+use Rattle.rules.specs.Good.{AllOwe, At, Good, ProperSingle, Proper}
 use Rattle.rules.specs.Says.{Declared, cancels, ignores, abandons, once-cancelled, Applies, item-1, item-2, item-3, item-4, item-5, item-6-again, item-6-fault, item-7, item-8, item-9, eofOfSent, itsMetadata, answerTo, named, bytesOf, pduOf, IsEof}
 use Rattle.rules.specs.Sums.{joined, firstBytes, sentIn, SumKept, SumOfTheSent, eofOver, namedBefore, SameLink, SameStep, EofReadsNothing}
 use Rattle.types.specs.declared.TransactionSeqNum.{TransactionSeqNum}
@@ -44,7 +44,7 @@ use Rattle.types.specs.declared.Verdict.{Verdict}
 use Rattle.types.specs.declared.Verdict.the-variants.{Enqueue, Move, Refuse, NoEffect}
 use Rattle.types.specs.declared.State.{State}
 use Rattle.types.specs.declared.TransactionStep.{TransactionStep}
-use Rattle.types.specs.declared.TransactionStep.the-variants.{Idle, SendingMetadata, SendingFileData, SendingEof, WaitingForEofAck, WaitingForFinished, Closing}
+use Rattle.types.specs.declared.TransactionStep.the-variants.{Idle, SendingEof}
 use Rattle.types.specs.declared.Due.{Due}
 use Rattle.types.specs.declared.Due.the-variants.{CancelEof, Repair, Metadata, Data, NoErrorEof, EofAgain, FaultCancel, FaultIgnore, FaultAbandon, Close, Nothing}
 use Rattle.types.specs.declared.Sending.{Sending}
@@ -61,7 +61,7 @@ use Rattle.rules.proofs.Summed.{nextPiece, sum-behind, OfFile, of-file-
 use Rattle.rules.proofs.Makes.{put-makes}
 use Rattle.rules.proofs.Applies.{due-applies}
 use Rattle.rules.proofs.GoodPut.{put-good}
-use Rattle.rules.proofs.Good.{good-kept, always-good}
+use Rattle.rules.proofs.Good.{awake-under, call-good, good-kept, always-good}
 use Rattle.rules.proofs.Says.{step-taken, due-says, answer-no-eof, close-no-eof}
 
 -- ---- the file data that a PDU carries
@@ -293,19 +293,12 @@ module _ (bs : List ℕ) (s : State) (g : Good s) (h : Held bs s) where
   call-held (cancel source number) p = cancel-by s (λ e t. Held (seen bs e) t) h h source number
   call-held reset p = idle-held bs (resetSpec s) refl
 
-single-good : (c : Single) (s : State) → ProperSingle c → Good s → Good (after c s)
-single-good (put c q a b S) s p g = good-kept .put s c q a b S p g
-single-good (deliver bytes) s p g = good-kept .deliver s bytes p g
-single-good (step lent expired out) s p g = good-kept .step s lent expired (length out) p g
-single-good (cancel source number) s p g = good-kept .cancel s source number g
-single-good reset s p g = good-kept .reset s g
-
 run-held : (cs : List Single) (bs : List ℕ) (s : State) → All ProperSingle cs → Good s → Held bs s → Held (firstBytes bs (run cs s)) (end cs s)
 unfolding run end
 run-held [] bs s p g h = h
 run-held (c ∷ cs) bs s p g h =
     subst (λ (v : List ℕ). Held v (end cs (after c s))) (sym (seen-first bs (shows c s) (run cs (after c s))))
-    (run-held cs (seen bs (shows c s)) (after c s) (p .1) (single-good c s (p .0) g) (call-held bs s g h c (p .0)))
+    (run-held cs (seen bs (shows c s)) (after c s) (p .1) (call-good (one c) s (p .0) g) (call-held bs s g h c (p .0)))
 
 -- from a new handler, with bursts among the calls
 all-held : (n : TransactionSeqNum) (cs : List Call) → Proper cs → Held (sentIn (trace cs (newSpec n))) (behind cs (newSpec n))
@@ -326,15 +319,6 @@ sum-kept =
     }
 
 -- ---- an EOF on the link
-
-busy-under : (s : State) (k : TransactionStep) → At k s → ¬ (k ≡ Idle) → Under s
-busy-under s Idle p n = absurd (n refl)
-busy-under s SendingMetadata p n = p .0
-busy-under s SendingFileData p n = p .0
-busy-under s SendingEof p n = p .0
-busy-under s WaitingForEofAck p n = p .0
-busy-under s WaitingForFinished p n = p .0
-busy-under s Closing p n = p .0
 
 -- nothing is due in Idle
 idle-due : (s : State) (expired : Bool) → Good s → s .step ≡ Idle → dueOf s expired ≡ Nothing
@@ -410,7 +394,7 @@ sum-of-the-sent n cs p lent expired out b a e = go (isIdle (s .step)) refl
     go false i =
         let awake = tells-idle (s .step) .no i in
         let k = all-held n cs p awake in
-        let u = busy-under s (s .step) (g .here) awake in
+        let u = awake-under (s .step) s (g .here) awake in
         read (due-sums s lent bs g k expired (dueOf s expired) (due-applies s expired) (eof-said (s .fixed .head) (u .fixed .head) x (ap isEofIn (sym written) ∙ e)))
 
 -- ---- the same file lent
@@ -469,7 +453,7 @@ module _ (file : List ℕ) where
   unfolding run end
   run-lent [] s p f n g l = (g, l)
   run-lent (c ∷ cs) s p f n g l =
-      run-lent cs (after c s) (p .1) (f .1) (n .1) (single-good c s (p .0) g) (call-lent c s g (f .0) (n .0) l)
+      run-lent cs (after c s) (p .1) (f .1) (n .1) (call-good (one c) s (p .0) g) (call-lent c s g (f .0) (n .0) l)
 
   -- ---- what was said before is said
 
