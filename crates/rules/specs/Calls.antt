@@ -19,6 +19,7 @@ use Rattle.types.specs.declared.LocalEntityConfig.{LocalEntityConfig}
 use Rattle.types.specs.declared.PutRequest.{PutRequest}
 use Rattle.types.specs.declared.State.{State}
 use Rattle.types.specs.declared.Done.{Done}
+use Rattle.types.specs.declared.Delivered.{Delivered}
 use Rattle.types.specs.declared.Stepped.{Stepped}
 use Rattle.types.specs.declared.Cancelled.{Cancelled}
 use Rattle.types.specs.declared.Bursted.{Bursted}
@@ -27,7 +28,8 @@ use Rattle.types.specs.declared.Bursted.{Bursted}
 abbrev pub PutMeets : State → LocalEntityConfig → PutRequest → List ℕ → List ℕ → ℕ → Done → Type 0
 PutMeets s c q source destination S r = r ≡ putSpec s c q source destination S
 
-abbrev pub DeliverMeets : State → List ℕ → Done → Type 0
+-- a delivery: the answer, how many of the bytes are the PDU's, and the whole new state
+abbrev pub DeliverMeets : State → List ℕ → Delivered → Type 0
 DeliverMeets s bytes r = r ≡ deliverSpec s bytes
 
 -- a step: the answer, the PDU's length, the events, the whole new state, and every byte of the out buffer before and after

@@ -1,4 +1,4 @@
--- "Byte cases": document 01's M1 to M12 about the definitions together, and those of requests R-1 and R-2, one statement over the list. Proof: proofs/Cases.antt.
+-- "Byte cases": document 01's M1 to M12 about the definitions together, and those of requests R-1, R-2 and R-4, one statement over the list. Proof: proofs/Cases.antt.
 -- Assumes nothing.
 use mathlib.Core.Path.{_≡_}
 use mathlib.Core.Bool.{Bool, true, false}
@@ -8,6 +8,7 @@ use Prim.Native.Nat.{ℕ}
 use lib.ListN.{length, replicate, drop}
 use Rattle.rules.specs.Refusals.{answerNo}
 use Rattle.rules.specs.Put.{noRemote, putSpec}
+use Rattle.rules.specs.Deliver.{deliverSpec}
 use Rattle.rules.specs.Step.{stepSpec}
 use Rattle.rules.specs.Cancel.{newSpec}
 use Rattle.rules.specs.Burst.{burstSpec, burstBytes}
@@ -130,8 +131,11 @@ large S = putSpec (newSpec (1, 7)) (config (remote true 4096 1)) request a b S .
 
 -- ---- what the peer says, towards the sender
 
+abbrev pub ackPdu : List ℕ
+ackPdu = 0x28 ∷ 0x00 ∷ 0x03 ∷ 0x00 ∷ 0x01 ∷ 0x07 ∷ 0x02 ∷ 0x06 ∷ 0x40 ∷ 0x01 ∷ []
+
 abbrev pub ackOfEof : Call
-ackOfEof = one (deliver (0x28 ∷ 0x00 ∷ 0x03 ∷ 0x00 ∷ 0x01 ∷ 0x07 ∷ 0x02 ∷ 0x06 ∷ 0x40 ∷ 0x01 ∷ []))
+ackOfEof = one (deliver ackPdu)
 
 abbrev pub finishedPdu : Call
 finishedPdu = one (deliver (0x28 ∷ 0x00 ∷ 0x02 ∷ 0x00 ∷ 0x01 ∷ 0x07 ∷ 0x02 ∷ 0x05 ∷ 0x02 ∷ []))
@@ -146,8 +150,23 @@ pair start end = 0 ∷ 0 ∷ 0 ∷ start ∷ 0 ∷ 0 ∷ 0 ∷ end ∷ []
 abbrev pub nak04and00 : Call
 nak04and00 = one (deliver (nakFront 25 ++ pair 0 4 ++ pair 0 0))
 
+abbrev pub nakPdu : List ℕ
+nakPdu = nakFront 17 ++ pair 0 5
+
 abbrev pub nak05 : Call
-nak05 = one (deliver (nakFront 17 ++ pair 0 5))
+nak05 = one (deliver nakPdu)
+
+-- ---- R-4: a frame
+
+-- a NAK, then an ACK of EOF, then fill
+abbrev pub frame : List ℕ
+frame = nakPdu ++ ackPdu ++ replicate 5 0x55
+
+-- what the next delivery answers and reports, once all four PDUs of the first pass have left and these have come
+unfoldable pub nextDelivery : List (List ℕ) → List ℕ → ℕ × ℕ
+nextDelivery came bytes =
+    let r = deliverSpec (stateBehind ackRemote (stepCalls 4 file ++ map (λ (pdu : List ℕ). one (deliver pdu)) came)) bytes in
+    (answerNo (r .answer), r .length)
 
 -- ---- the stream, in bytes
 
@@ -231,6 +250,19 @@ byteCases =
     ∷ went (some (0x30 ∷ 0x00 ∷ 0x05 ∷ 0x00 ∷ 0x01 ∷ 0x07 ∷ 0x02 ∷ 0x00 ∷ 0x00 ∷ 0x00 ∷ 0x04 ∷ 0x45 ∷ []))
     ∷ went (some (0x20 ∷ 0x00 ∷ 0x0A ∷ 0x00 ∷ 0x01 ∷ 0x07 ∷ 0x02 ∷ 0x04 ∷ 0x00 ∷ 0x86 ∷ 0x42 ∷ 0x43 ∷ 0x44 ∷ 0x00 ∷ 0x00 ∷ 0x00 ∷ 0x05 ∷ []))
     ∷ []))
+    -- R-4: M9's NAK with fill that looks like a third pair owes two
+    ∷ (pendingCount ackRemote (stepCalls 3 file ++ one (deliver (nakFront 25 ++ pair 0 4 ++ pair 0 0 ++ pair 0 1)) ∷ []) gives 2)
+    -- R-4: two PDUs in one frame: the NAK has 24 bytes, the ACK behind it 10, and the fill is Malformed; so, too, the ACK when it comes alone
+    ∷ (nextDelivery [] frame gives (0, 24))
+    ∷ (nextDelivery (frame ∷ []) (drop 24 frame) gives (0, 10))
+    ∷ (nextDelivery (frame ∷ drop 24 frame ∷ []) (drop 34 frame) gives (20, 0))
+    ∷ (nextDelivery (nakPdu ∷ []) ackPdu gives (0, 10))
+    -- R-4: the number on refusals: a second ACK (22), another transaction's (23), file data (21), a NAK of a byte that was not sent (24); an ACK a byte short (20)
+    ∷ (nextDelivery (ackPdu ∷ []) (ackPdu ++ 0x55 ∷ []) gives (22, 10))
+    ∷ (nextDelivery [] (0x28 ∷ 0x00 ∷ 0x03 ∷ 0x00 ∷ 0x01 ∷ 0x08 ∷ 0x02 ∷ 0x06 ∷ 0x40 ∷ 0x01 ∷ 0x55 ∷ []) gives (23, 10))
+    ∷ (nextDelivery [] (0x38 ∷ 0x00 ∷ 0x01 ∷ 0x00 ∷ 0x01 ∷ 0x07 ∷ 0x02 ∷ 0x00 ∷ 0x55 ∷ []) gives (21, 8))
+    ∷ (nextDelivery [] (nakFront 17 ++ pair 0 6 ++ 0x55 ∷ []) gives (24, 24))
+    ∷ (nextDelivery [] (0x28 ∷ 0x00 ∷ 0x03 ∷ 0x00 ∷ 0x01 ∷ 0x07 ∷ 0x02 ∷ 0x06 ∷ 0x40 ∷ []) gives (20, 0))
     -- M11: "limit 1 faults at first expiry": cancel, condition 1, progress 5; limit 2 doesn't
     ∷ (nextFault (remote false 17 1) (stepCalls 4 file) gives Fault 1 1 5)
     ∷ (nextFault (remote false 17 2) (stepCalls 4 file) gives NoFault)

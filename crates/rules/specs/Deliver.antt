@@ -1,4 +1,4 @@
--- Deliver: 20, 21, 23, 22, 24, 25 in this order, or what the table of steps says.
+-- Deliver: 20, 21, 23, 22, 24, 25 in this order, or what the table of steps says; and how many of the bytes are the PDU's. What stands behind these is fill.
 -- Assumes nothing.
 use mathlib.Core.Bool.{Bool, true, false}
 use mathlib.Core.List.{List, [], _∷_}
@@ -27,6 +27,7 @@ use Rattle.types.specs.declared.Row.{Row}
 use Rattle.types.specs.declared.Refusal.the-variants.{Malformed, CantProcessPacketType, UnexpectedPdu, OtherTransaction, InvalidNakPdu, RetransmitFull}
 use Rattle.types.specs.declared.Answer.{Answer}
 use Rattle.types.specs.declared.Done.{Done}
+use Rattle.types.specs.declared.Delivered.{Delivered}
 
 -- ---- what the bytes say
 
@@ -148,5 +149,14 @@ deliverState s bytes said =
     let m = meaningOf said in
     byVerdict s (asked bytes (frameIn bytes) m) m (verdictOf (s .step) m)
 
-unfoldable pub deliverSpec : State → List ℕ → Done
-deliverSpec s bytes = byAnswer s (deliverState s bytes (saidIn bytes)) (deliverAnswer s bytes (saidIn bytes))
+-- "report how many bytes belong to the PDU .. Deliver reports it too, on refusals as well, 0 when Malformed" (02, R-4)
+unfoldable pub deliverLength : List ℕ → Body → ℕ
+deliverLength bytes said = pick (isMalformed said) 0 (frameIn bytes .length)
+
+abbrev pub reporting : ℕ → Done → Delivered
+reporting n d = record { answer = d .answer; length = n; state = d .state }
+
+unfoldable pub deliverSpec : State → List ℕ → Delivered
+deliverSpec s bytes =
+    let said = saidIn bytes in
+    reporting (deliverLength bytes said) (byAnswer s (deliverState s bytes said) (deliverAnswer s bytes said))

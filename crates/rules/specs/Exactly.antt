@@ -123,14 +123,14 @@ FirstEntry =
 
 -- ---- deliver: 20, 21, 23, 22, 24, 25
 
--- "Another version or width, a length not H plus the data field length"; the CRC: "a wrong one is Malformed", and so is a data field without room for it
+-- "Another version or width"; a delivery shorter than H plus the data field length; the CRC: "a wrong one is Malformed", and so is a data field without room for it
 abbrev pub NoFrame : List ℕ → Type 0
 NoFrame s =
     (length s < 4)
     ⊎ (¬ (versionIn s ≡ 1))
     ⊎ (¬ Width (idWidthIn s))
     ⊎ (¬ Width (seqWidthIn s))
-    ⊎ (¬ (length s ≡ endIn s))
+    ⊎ (length s < endIn s)
     ⊎ ((crcIn s ≡ true) × ((lengthIn s < 2) ⊎ (¬ (numAt s (endIn s - 2) 2 ≡ crc16 (take (endIn s - 2) s)))))
 
 -- "Conditions 12 and 13 are reserved"

@@ -14,6 +14,7 @@ pub mod Companions
 pub mod Cases
 pub mod OneOutcome
 pub mod Exactly
+pub mod Fill
 pub mod Good
 pub mod Bursts
 pub mod Events

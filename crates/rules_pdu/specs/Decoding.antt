@@ -10,7 +10,7 @@ use Rattle.basis.specs.Pick.{pick, _and_, not}
 use Rattle.basis.specs.Bytes.{part, byte, numAt}
 use Rattle.rules_pdu.specs.Numbers.{F}
 use Rattle.rules_pdu.specs.Layout.{Said, metadata, fileData, eof, ackFinished, Pdu}
-use Rattle.rules_pdu.specs.Reading.{bitIn, wellFramed, headIn, fileDataIn, toSenderIn, largeIn, hIn, bodyIn, reserved}
+use Rattle.rules_pdu.specs.Reading.{bitIn, wellFramed, headIn, fileDataIn, toSenderIn, largeIn, hIn, endIn, bodyIn, reserved}
 use Rattle.types.specs.declared.Head.{Head}
 
 -- 7 Metadata: "reserved 1, closure 1, reserved 2, checksum type 4; size F; source name, destination name, each behind one length byte"
@@ -53,9 +53,13 @@ abbrev pub withHead : Head → Option Said → Option Pdu
 withHead h none = none
 withHead h (some m) = some (record { head = h; said = m })
 
--- a PDU towards the receiver
+-- a PDU towards the receiver, in front of the bytes, whatever stands behind it
+unfoldable pub decodeFirst : List ℕ → Option Pdu
+decodeFirst s = pick (wellFramed s) (pick (toSenderIn s) none (withHead (headIn s) (saidIn (fileDataIn s) (largeIn s) (bodyIn s)))) none
+
+-- the same, with nothing behind it: so is what a step emits read, where a byte too many would be wrong
 unfoldable pub decode : List ℕ → Option Pdu
-decode s = pick (wellFramed s) (pick (toSenderIn s) none (withHead (headIn s) (saidIn (fileDataIn s) (largeIn s) (bodyIn s)))) none
+decode s = pick (eqb (length s) (endIn s)) (decodeFirst s) none
 
 -- ---- single questions of an observer
 

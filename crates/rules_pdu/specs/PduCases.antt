@@ -2,7 +2,7 @@
 -- Assumes nothing.
 use mathlib.Core.Path.{_≡_, refl}
 use mathlib.Core.Bool.{Bool, true, false}
-use mathlib.Core.List.{List, [], _∷_, map}
+use mathlib.Core.List.{List, [], _∷_, _++_, map}
 use mathlib.Core.Option.{none, some}
 use Prim.Native.Nat.{ℕ}
 use lib.ListN.{length}
@@ -11,7 +11,7 @@ use Rattle.rules_pdu.specs.Numbers.{goodWidth}
 use Rattle.rules_leaves.specs.Checksum.{crc16, crc16Byte}
 use Rattle.rules_pdu.specs.Layout.{metadata, fileData, eof, ackFinished, Pdu, headBytes, trailer, pduBytes, bodyBytes, encode}
 use Rattle.rules_pdu.specs.Reading.{bitIn, versionIn, fileDataIn, toSenderIn, unacknowledgedIn, crcIn, largeIn, lengthIn, idWidthIn, seqWidthIn, headIn, crcAgrees, crcGood, wellFramed, frameIn, framedIn, bodyIn, reserved, areTlvs, finishedParams, finishedIn, ackIn, requestCount, nakIn, keepAliveIn, directiveIn, bodyOf}
-use Rattle.rules_pdu.specs.Decoding.{metadataIn, dataIn, eofIn, ackFinishedIn, saidIn, decode}
+use Rattle.rules_pdu.specs.Decoding.{metadataIn, dataIn, eofIn, ackFinishedIn, saidIn, decodeFirst, decode}
 use Rattle.types.specs.declared.Head.{Head}
 use Rattle.types.specs.declared.Framed.{Framed}
 use Rattle.types.specs.declared.Framed.the-variants.{Malformed as NoFrame, Whole}
@@ -66,7 +66,7 @@ unfolding be headBytes trailer pduBytes bodyBytes encode crc16 crc16Byte
 written = refl
 
 pub read : map decode onTheLink ≡ map some sent
-unfolding num part byte numAt goodWidth bitIn versionIn fileDataIn toSenderIn unacknowledgedIn crcIn largeIn lengthIn idWidthIn seqWidthIn headIn bodyIn crcAgrees crcGood wellFramed reserved metadataIn dataIn eofIn ackFinishedIn saidIn decode crc16 crc16Byte
+unfolding num part byte numAt goodWidth bitIn versionIn fileDataIn toSenderIn unacknowledgedIn crcIn largeIn lengthIn idWidthIn seqWidthIn headIn bodyIn crcAgrees crcGood wellFramed reserved metadataIn dataIn eofIn ackFinishedIn saidIn decodeFirst decode crc16 crc16Byte
 read = refl
 
 -- bits that are not judged: M1 with Metadata's reserved bits set, M2 with segmentation control and segment metadata flag, M4 and M8 with their spare bits
@@ -87,8 +87,20 @@ bitsSet = (
     ∷ []
 
 pub unjudged : map (λ (c : List ℕ × Pdu). decode (c .0)) bitsSet ≡ map (λ (c : List ℕ × Pdu). some (c .1)) bitsSet
-unfolding num part byte numAt goodWidth bitIn versionIn fileDataIn toSenderIn unacknowledgedIn crcIn largeIn lengthIn idWidthIn seqWidthIn headIn bodyIn crcAgrees crcGood wellFramed reserved metadataIn dataIn eofIn ackFinishedIn saidIn decode
+unfolding num part byte numAt goodWidth bitIn versionIn fileDataIn toSenderIn unacknowledgedIn crcIn largeIn lengthIn idWidthIn seqWidthIn headIn bodyIn crcAgrees crcGood wellFramed reserved metadataIn dataIn eofIn ackFinishedIn saidIn decodeFirst decode
 unjudged = refl
+
+-- with fill behind: read in front of it, and not alone
+abbrev pub filled : List (List ℕ)
+filled = map (λ (s : List ℕ). s ++ (0x55 ∷ 0x00 ∷ [])) onTheLink
+
+pub read-first : map decodeFirst filled ≡ map some sent
+unfolding num part byte numAt goodWidth bitIn versionIn fileDataIn toSenderIn unacknowledgedIn crcIn largeIn lengthIn idWidthIn seqWidthIn headIn bodyIn crcAgrees crcGood wellFramed reserved metadataIn dataIn eofIn ackFinishedIn saidIn decodeFirst crc16 crc16Byte
+read-first = refl
+
+pub not-alone : map decode filled ≡ map (λ (s : List ℕ). none) filled
+unfolding num part byte numAt lengthIn idWidthIn seqWidthIn decode
+not-alone = refl
 
 -- what is no sender's PDU: M1 whose second name ends behind the body; M4 with a byte more; M8 with subtype 0, and towards the sender;
 -- file data that ends inside its offset; another code; M4 with condition 12, M8 with condition 13
@@ -105,7 +117,7 @@ noPdu =
     ∷ []
 
 pub unread : map decode noPdu ≡ map (λ (s : List ℕ). none) noPdu
-unfolding num part byte numAt goodWidth bitIn versionIn fileDataIn toSenderIn unacknowledgedIn crcIn largeIn lengthIn idWidthIn seqWidthIn headIn bodyIn crcAgrees crcGood wellFramed reserved metadataIn dataIn eofIn ackFinishedIn saidIn decode
+unfolding num part byte numAt goodWidth bitIn versionIn fileDataIn toSenderIn unacknowledgedIn crcIn largeIn lengthIn idWidthIn seqWidthIn headIn bodyIn crcAgrees crcGood wellFramed reserved metadataIn dataIn eofIn ackFinishedIn saidIn decodeFirst decode
 unread = refl
 
 -- ---- deliveries, and what each comes to
@@ -166,21 +178,45 @@ deliveries =
     ∷ (0x20 ∷ 0x00 ∷ 0x03 ∷ 0x00 ∷ 0x01 ∷ 0x07 ∷ 0x02 ∷ 0x06 ∷ 0x40 ∷ 0x01 ∷ [], CantProcess)
     ∷ (0x20 ∷ 0x00 ∷ 0x03 ∷ 0x00 ∷ 0x01 ∷ 0x07 ∷ 0x02 ∷ 0x06 ∷ 0x41 ∷ 0x01 ∷ [], Malformed)
     -- mode bit, segmentation control and segment metadata flag set; versions 2 and 3; an id width of 3;
-    -- a length one more, one less; a byte behind; a header cut short
+    -- a length one more, one less; a header cut short
     ∷ (0x2C ∷ 0x00 ∷ 0x03 ∷ 0x88 ∷ 0x01 ∷ 0x07 ∷ 0x02 ∷ 0x06 ∷ 0x40 ∷ 0x01 ∷ [], Means AckOfEof)
     ∷ (0x48 ∷ 0x00 ∷ 0x03 ∷ 0x00 ∷ 0x01 ∷ 0x07 ∷ 0x02 ∷ 0x06 ∷ 0x40 ∷ 0x01 ∷ [], Malformed)
     ∷ (0x68 ∷ 0x00 ∷ 0x03 ∷ 0x00 ∷ 0x01 ∷ 0x07 ∷ 0x02 ∷ 0x06 ∷ 0x40 ∷ 0x01 ∷ [], Malformed)
     ∷ (0x28 ∷ 0x00 ∷ 0x03 ∷ 0x20 ∷ 0x00 ∷ 0x00 ∷ 0x01 ∷ 0x07 ∷ 0x00 ∷ 0x00 ∷ 0x02 ∷ 0x06 ∷ 0x40 ∷ 0x01 ∷ [], Malformed)
     ∷ (0x28 ∷ 0x00 ∷ 0x04 ∷ 0x00 ∷ 0x01 ∷ 0x07 ∷ 0x02 ∷ 0x06 ∷ 0x40 ∷ 0x01 ∷ [], Malformed)
     ∷ (0x28 ∷ 0x00 ∷ 0x02 ∷ 0x00 ∷ 0x01 ∷ 0x07 ∷ 0x02 ∷ 0x06 ∷ 0x40 ∷ 0x01 ∷ [], Malformed)
-    ∷ (0x28 ∷ 0x00 ∷ 0x03 ∷ 0x00 ∷ 0x01 ∷ 0x07 ∷ 0x02 ∷ 0x06 ∷ 0x40 ∷ 0x01 ∷ 0x00 ∷ [], Malformed)
     ∷ (0x28 ∷ 0x00 ∷ 0x00 ∷ [], Malformed)
     -- with CRC: right, wrong; file data with a CRC and nothing else; no room for one
     ∷ (0x2A ∷ 0x00 ∷ 0x05 ∷ 0x00 ∷ 0x01 ∷ 0x07 ∷ 0x02 ∷ 0x06 ∷ 0x40 ∷ 0x01 ∷ 0x64 ∷ 0x1A ∷ [], Means AckOfEof)
     ∷ (0x2A ∷ 0x00 ∷ 0x05 ∷ 0x00 ∷ 0x01 ∷ 0x07 ∷ 0x02 ∷ 0x06 ∷ 0x40 ∷ 0x01 ∷ 0x64 ∷ 0x1B ∷ [], Malformed)
     ∷ (0x32 ∷ 0x00 ∷ 0x02 ∷ 0x00 ∷ 0x01 ∷ 0x07 ∷ 0x02 ∷ 0x02 ∷ 0xC6 ∷ [], CantProcess)
     ∷ (0x32 ∷ 0x00 ∷ 0x01 ∷ 0x00 ∷ 0x01 ∷ 0x07 ∷ 0x02 ∷ 0x02 ∷ [], Malformed)
+    -- with fill behind: an ACK, also one a byte short that the fill would complete, and one a byte too long; a Finished whose TLV the fill would close; a NAK of one pair with a second
+    -- in the fill, and one of half a pair that the fill would complete; an EOF, unread; only fill
+    ∷ (0x28 ∷ 0x00 ∷ 0x03 ∷ 0x00 ∷ 0x01 ∷ 0x07 ∷ 0x02 ∷ 0x06 ∷ 0x40 ∷ 0x01 ∷ 0x55 ∷ 0x55 ∷ [], Means AckOfEof)
+    ∷ (0x28 ∷ 0x00 ∷ 0x02 ∷ 0x00 ∷ 0x01 ∷ 0x07 ∷ 0x02 ∷ 0x06 ∷ 0x40 ∷ 0x01 ∷ 0x55 ∷ 0x55 ∷ [], Malformed)
+    ∷ (0x28 ∷ 0x00 ∷ 0x04 ∷ 0x00 ∷ 0x01 ∷ 0x07 ∷ 0x02 ∷ 0x06 ∷ 0x40 ∷ 0x01 ∷ 0x55 ∷ 0x55 ∷ [], Malformed)
+    ∷ (told (0x05 ∷ 0x00 ∷ 0x06 ∷ 0x01 ∷ []) ++ (0x55 ∷ []), Malformed)
+    ∷ (told (0x08 ∷ 0 ∷ 0 ∷ 0 ∷ 0 ∷ 0 ∷ 0 ∷ 0 ∷ 5 ∷ 0 ∷ 0 ∷ 0 ∷ 0 ∷ 0 ∷ 0 ∷ 0 ∷ 4 ∷ []) ++ (0 ∷ 0 ∷ 0 ∷ 0 ∷ 0 ∷ 0 ∷ 0 ∷ 2 ∷ []), Means (Nak 1))
+    ∷ (told (0x08 ∷ 0 ∷ 0 ∷ 0 ∷ 0 ∷ 0 ∷ 0 ∷ 0 ∷ 5 ∷ 0 ∷ 0 ∷ 0 ∷ 0 ∷ []) ++ (0 ∷ 0 ∷ 0 ∷ 4 ∷ []), Malformed)
+    ∷ (told (0x04 ∷ []) ++ (0x00 ∷ 0x00 ∷ []), CantProcess)
+    ∷ (0x55 ∷ 0x55 ∷ 0x55 ∷ 0x55 ∷ 0x55 ∷ 0x55 ∷ 0x55 ∷ 0x55 ∷ 0x55 ∷ 0x55 ∷ [], Malformed)
+    -- with CRC and fill: the CRC at the data field's end, and the same bytes with it at the delivery's
+    ∷ (0x2A ∷ 0x00 ∷ 0x05 ∷ 0x00 ∷ 0x01 ∷ 0x07 ∷ 0x02 ∷ 0x06 ∷ 0x40 ∷ 0x01 ∷ 0x64 ∷ 0x1A ∷ 0x00 ∷ 0x00 ∷ [], Means AckOfEof)
+    ∷ (0x2A ∷ 0x00 ∷ 0x05 ∷ 0x00 ∷ 0x01 ∷ 0x07 ∷ 0x02 ∷ 0x06 ∷ 0x40 ∷ 0x01 ∷ 0x00 ∷ 0x00 ∷ 0x64 ∷ 0x1A ∷ [], Malformed)
     ∷ []
+
+-- "report how many bytes belong to the PDU": by its header, whatever stands behind; a PDU with a CRC, and one of the longest data field
+abbrev pub belonging : List (List ℕ × ℕ)
+belonging =
+    (told (0x06 ∷ 0x40 ∷ 0x01 ∷ []) ++ (0x55 ∷ 0x55 ∷ []), 10)
+    ∷ (0x2A ∷ 0x00 ∷ 0x05 ∷ 0x00 ∷ 0x01 ∷ 0x07 ∷ 0x02 ∷ 0x06 ∷ 0x40 ∷ 0x01 ∷ 0x64 ∷ 0x1A ∷ 0x00 ∷ 0x00 ∷ [], 12)
+    ∷ (0x28 ∷ 0xFF ∷ 0xFF ∷ 0x77 ∷ [], 65563)
+    ∷ []
+
+pub belong : map (λ (d : List ℕ × ℕ). frameIn (d .0) .length) belonging ≡ map (λ (d : List ℕ × ℕ). d .1) belonging
+unfolding num part byte numAt lengthIn idWidthIn seqWidthIn frameIn
+belong = refl
 
 pub delivered : map (λ (d : List ℕ × Body). comesTo (d .0)) deliveries ≡ map (λ (d : List ℕ × Body). d .1) deliveries
 unfolding num part byte numAt goodWidth bitIn versionIn fileDataIn toSenderIn unacknowledgedIn crcIn largeIn lengthIn idWidthIn seqWidthIn headIn bodyIn crcAgrees crcGood wellFramed frameIn framedIn crc16 crc16Byte reserved areTlvs finishedParams finishedIn ackIn requestCount nakIn keepAliveIn directiveIn bodyOf

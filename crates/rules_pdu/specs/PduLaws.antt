@@ -15,8 +15,8 @@ use Rattle.rules_pdu.specs.Fields.{wire}
 use Rattle.rules_pdu.specs.Numbers.{goodWidth, H, F, C}
 use Rattle.rules_leaves.specs.Checksum.{crc16}
 use Rattle.rules_pdu.specs.Layout.{Said, metadata, fileData, eof, ackFinished, Heard, finished, ackEof, nak, keepAlive, headBytes, layout, layoutHeard, trailer, encode, encodeHeard, pduLength, Pdu, isFileData, writtenOf}
-use Rattle.rules_pdu.specs.Reading.{reserved, lengthIn, frameIn, framedIn, bodyIn, bodyOf, areTlvs, directiveIn, requestsFrom}
-use Rattle.rules_pdu.specs.Decoding.{decode}
+use Rattle.rules_pdu.specs.Reading.{reserved, lengthIn, endIn, frameIn, framedIn, bodyIn, bodyOf, areTlvs, directiveIn, requestsFrom}
+use Rattle.rules_pdu.specs.Decoding.{decodeFirst, decode}
 use Rattle.types.specs.declared.Head.{Head}
 use Rattle.types.specs.declared.Frame.{Frame}
 use Rattle.types.specs.declared.Framed.the-variants.{Malformed as NoFrame, Whole}
@@ -61,9 +61,15 @@ Hearable large (keepAlive p) = p < 2 ^ (8 * F large)
 
 -- ---- the laws
 
--- LAW round-trip: for every meaning that a sender can write, reading what was written gives the meaning back.
-abbrev pub RoundTrip : Type 0
-RoundTrip = (h : Head) (m : Said) → Fit h → Sayable h m → decode (encode h m) ≡ some (record { head = h; said = m })
+-- LAW round-trip: for every meaning that a sender can write, reading what was written gives the meaning back: alone, and with anything behind it, its own
+-- length reported.
+pub record RoundTrip (h : Head) (m : Said) : Type 0 where
+  pub alone : decode (encode h m) ≡ some (record { head = h; said = m })
+  pub first : (fill : List ℕ) → decodeFirst (encode h m ++ fill) ≡ some (record { head = h; said = m })
+  pub reported : (fill : List ℕ) → let s = encode h m ++ fill in (framedIn s ≡ Whole (frameIn s)) × (frameIn s .length ≡ length (encode h m))
+
+abbrev pub RoundTrips : Type 0
+RoundTrips = (h : Head) (m : Said) → Fit h → Sayable h m → RoundTrip h m
 
 -- LAW same-bytes: two meanings with the same bytes are one.
 abbrev pub SameBytes : Type 0
@@ -123,14 +129,17 @@ requestsOf (keepAlive p) = []
 abbrev pub firstPair : Head → ℕ
 firstPair h = H h + 1 + F (h .large) + F (h .large)
 
--- LAW heard-read: whatever a peer writes by the layouts is not refused, and has the meaning, and the requests, that the peer gave it.
+-- LAW heard-read: whatever a peer writes by the layouts is not refused, with anything behind it, and has the meaning, and the requests, that the peer gave it; its
+-- own length is reported.
 abbrev pub HeardRead : Type 0
 HeardRead =
-    (h : Head) (m : Heard) → Fit h → Hearable (h .large) m → length (wire (layoutHeard (h .large) m)) + C (h .crc) < 65536
-    → (framedIn (encodeHeard h m) ≡ Whole (frameIn (encodeHeard h m)))
-    × (frameIn (encodeHeard h m) .head ≡ h)
-    × (bodyOf (frameIn (encodeHeard h m)) (bodyIn (encodeHeard h m)) ≡ Means (meaningOf m))
-    × (requestsFrom (length (requestsOf m)) (h .large) (encodeHeard h m) (firstPair h) ≡ requestsOf m)
+    (h : Head) (m : Heard) (fill : List ℕ) → Fit h → Hearable (h .large) m → length (wire (layoutHeard (h .large) m)) + C (h .crc) < 65536
+    → let s = encodeHeard h m ++ fill in
+    (framedIn s ≡ Whole (frameIn s))
+    × (frameIn s .head ≡ h)
+    × (frameIn s .length ≡ length (encodeHeard h m))
+    × (bodyOf (frameIn s) (bodyIn s) ≡ Means (meaningOf m))
+    × (requestsFrom (length (requestsOf m)) (h .large) s (firstPair h) ≡ requestsOf m)
 
 -- a run of TLVs, as a grammar: type 1 or 6, a length, as many bytes
 pub data Tlvs : List ℕ → Type 0 where
@@ -187,33 +196,54 @@ ReservedExactly = (c : ℕ) → (reserved c ≡ true) ↔ ((c ≡ 12) ⊎ (c ≡
 unfoldable pub clearedHead : List ℕ → List ℕ
 clearedHead s = set s 3 (byte s 3 / 16 % 8 * 16 + byte s 3 % 8)
 
--- bytes that are a PDU by the layouts: header and body in front, then the CRC over these as they stand
-pub record IsPdu (s : List ℕ) (f : Frame) (body : List ℕ) : Type 0 where
+-- bytes that are a PDU by the layouts, with this fill behind it: header and body in front, then the CRC over these as they stand; the frame has where the body stands and how
+-- many bytes are the PDU's
+pub record IsPdu (s : List ℕ) (f : Frame) (body fill : List ℕ) : Type 0 where
   pub fit : Fit (f .head)
   pub short : length body + C (f .head .crc) < 65536
   pub front : List ℕ
   pub laid : headBytes (f .head) (f .filedata) (f .tosender) (length body + C (f .head .crc)) ++ body ≡ clearedHead front
-  pub closes : front ++ trailer (f .head .crc) front ≡ s
+  pub closes : (front ++ trailer (f .head .crc) front) ++ fill ≡ s
   pub starts : f .start ≡ H (f .head)
   pub ends : f .end ≡ H (f .head) + length body
+  pub belong : f .length ≡ length (front ++ trailer (f .head .crc) front)
 
--- LAW frame-exactly: bytes are Malformed exactly if they are no PDU by the layouts; else their header, frame and body are read as they stand.
+-- LAW frame-exactly: bytes are Malformed exactly if they are no PDU by the layouts with any fill behind it; else their header, frame and body are read as they stand, and
+-- the length is the PDU's own.
 abbrev pub FrameExactly : Type 0
 FrameExactly =
     (s : List ℕ) → Bytes s
-    → ((framedIn s ≡ NoFrame) ↔ ((f : Frame) (body : List ℕ) → IsPdu s f body → ⊥))
-    × ((f : Frame) (body : List ℕ) → IsPdu s f body → (framedIn s ≡ Whole f) × (bodyIn s ≡ body))
+    → ((framedIn s ≡ NoFrame) ↔ ((f : Frame) (body fill : List ℕ) → IsPdu s f body fill → ⊥))
+    × ((f : Frame) (body fill : List ℕ) → IsPdu s f body fill → (framedIn s ≡ Whole f) × (bodyIn s ≡ body))
 
--- bytes that are a sender's PDU by the layouts: a frame towards the receiver, and in it the layout of what the PDU says, but for bits that are not judged
-pub record IsSaid (s : List ℕ) (p : Pdu) : Type 0 where
+-- LAW own-read: of bytes that hold a whole PDU, as many as their header says, only these are read: two that agree on them are read alike.
+pub record OwnRead (a b : List ℕ) : Type 0 where
+  pub framed : framedIn a ≡ framedIn b
+  pub frame : frameIn a ≡ frameIn b
+  pub body : bodyIn a ≡ bodyIn b
+  pub first : decodeFirst a ≡ decodeFirst b
+
+abbrev pub OwnsRead : Type 0
+OwnsRead = (a b : List ℕ) → endIn a ≤ length a → take (endIn a) a ≡ take (endIn a) b → OwnRead a b
+
+-- the frame of a sender's PDU with this body: towards the receiver
+abbrev pub frameOf : Pdu → List ℕ → Frame
+frameOf p body =
+    let n = length body in
+    record { head = p .head; filedata = isFileData (p .said); tosender = false; start = H (p .head); end = H (p .head) + n; length = H (p .head) + n + C (p .head .crc) }
+
+-- bytes that are a sender's PDU by the layouts, with this fill behind it: its frame, and in it the layout of what the PDU says, but for bits that are not judged
+pub record IsSaid (s : List ℕ) (p : Pdu) (fill : List ℕ) : Type 0 where
   pub body : List ℕ
-  pub framed : IsPdu s (record { head = p .head; filedata = isFileData (p .said); tosender = false; start = H (p .head); end = H (p .head) + length body }) body
+  pub framed : IsPdu s (frameOf p body) body fill
   pub sayable : Sayable (p .head) (p .said)
   pub says : wire (layout (p .head .large) (p .said)) ≡ pick (isFileData (p .said)) body (cleared body)
 
--- LAW decode-exactly: bytes are read as a sender's PDU exactly if they are that PDU by the layouts, and as none exactly if they are none.
+-- LAW decode-exactly: bytes are read as a sender's PDU exactly if they are that PDU by the layouts, and as none exactly if they are none; with any fill behind it, or with none.
 abbrev pub DecodeExactly : Type 0
 DecodeExactly =
     (s : List ℕ) → Bytes s
-    → ((p : Pdu) → (decode s ≡ some p) ↔ IsSaid s p)
-    × ((decode s ≡ none) ↔ ((p : Pdu) → IsSaid s p → ⊥))
+    → ((p : Pdu) → (decodeFirst s ≡ some p) ↔ ((fill : List ℕ) × IsSaid s p fill))
+    × ((decodeFirst s ≡ none) ↔ ((p : Pdu) (fill : List ℕ) → IsSaid s p fill → ⊥))
+    × ((p : Pdu) → (decode s ≡ some p) ↔ IsSaid s p [])
+    × ((decode s ≡ none) ↔ ((p : Pdu) → IsSaid s p [] → ⊥))

@@ -67,7 +67,7 @@ headIn s =
 abbrev pub hIn : List ℕ → ℕ
 hIn s = 4 + 2 * idWidthIn s + seqWidthIn s
 
--- where the PDU ends, by its own header
+-- where the PDU ends, by its own header: "how many bytes belong to the PDU". What stands behind is fill
 abbrev pub endIn : List ℕ → ℕ
 endIn s = hIn s + lengthIn s
 
@@ -79,14 +79,15 @@ crcAgrees s = eqb (numAt s (endIn s - 2) 2) (crc16 (take (endIn s - 2) s))
 unfoldable pub crcGood : List ℕ → Bool
 crcGood s = not (crcIn s) or not (ltb (lengthIn s) 2) and crcAgrees s
 
--- "Another version or width, a length not H plus the data field length .. is Malformed"; and the CRC
+-- "Another version or width .. is Malformed"; "a delivery at least as long as H plus the data field length" is accepted (02, R-4): "As to length,
+-- Malformed then means a shorter delivery only"; and the CRC
 unfoldable pub wellFramed : List ℕ → Bool
 wellFramed s =
     not (ltb (length s) 4)
     and eqb (versionIn s) 1
     and goodWidth (idWidthIn s)
     and goodWidth (seqWidthIn s)
-    and eqb (length s) (endIn s)
+    and not (ltb (length s) (endIn s))
     and crcGood s
 
 -- the body: the data field without its CRC
@@ -94,7 +95,7 @@ abbrev pub bodyEnd : List ℕ → ℕ
 bodyEnd s = endIn s - C (crcIn s)
 
 unfoldable pub frameIn : List ℕ → Frame
-frameIn s = record { head = headIn s; filedata = fileDataIn s; tosender = toSenderIn s; start = hIn s; end = bodyEnd s }
+frameIn s = record { head = headIn s; filedata = fileDataIn s; tosender = toSenderIn s; start = hIn s; end = bodyEnd s; length = endIn s }
 
 unfoldable pub framedIn : List ℕ → Framed
 framedIn s = pick (wellFramed s) (Whole (frameIn s)) NoFrame

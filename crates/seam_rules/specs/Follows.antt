@@ -30,6 +30,7 @@ pub record MemoryFollows : Type 0 where
       (d .code ≡ answerNo (r .answer)) × (stateOf (d .held) ≡ r .state)
   pub deliver : (h : Handler) (bytes : List ℕ)
       → (deliverDone h bytes .code ≡ answerNo (deliverSpec (stateOf h) bytes .answer))
+      × (deliverDone h bytes .report .length ≡ deliverSpec (stateOf h) bytes .length)
       × (stateOf (deliverDone h bytes .held) ≡ deliverSpec (stateOf h) bytes .state)
   pub step : (h : Handler) (file : List ℕ) (expired : ℕ) (out : List ℕ)
       → let d = stepDone h file expired out in

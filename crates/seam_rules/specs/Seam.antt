@@ -24,6 +24,7 @@ use Rattle.seam_rules.specs.declared.memory.Report.{Report}
 use Rattle.seam_rules.specs.declared.memory.Handler.{Handler}
 use Rattle.seam_rules.specs.declared.memory.BurstReport.{BurstReport}
 use Rattle.seam_rules.specs.declared.Done.{Done}
+use Rattle.seam_rules.specs.declared.DeliverDone.{DeliverDone}
 use Rattle.seam_rules.specs.declared.BurstDone.{BurstDone}
 
 -- ---- the code that is returned, and the memory after the call; the configuration stays
@@ -45,8 +46,12 @@ putDone h width entity unacknowledged closure source destination size =
     let r = putSpec (stateOf h) (configOf (h .config)) (requestOf width entity unacknowledged closure) source destination size in
     byAnswer h (r .state) noReport (r .answer)
 
-unfoldable pub deliverDone : Handler → List ℕ → Done
-deliverDone h bytes = let r = deliverSpec (stateOf h) bytes in byAnswer h (r .state) noReport (r .answer)
+-- a delivery's own report is written on a refusal too
+abbrev pub reporting : ℕ → Done → DeliverDone
+reporting n d = record { code = d .code; held = d .held; report = record { length = n } }
+
+unfoldable pub deliverDone : Handler → List ℕ → DeliverDone
+deliverDone h bytes = let r = deliverSpec (stateOf h) bytes in reporting (r .length) (byAnswer h (r .state) noReport (r .answer))
 
 unfoldable pub stepDone : Handler → List ℕ → ℕ → List ℕ → Done
 stepDone h file expired out =

@@ -4,12 +4,20 @@
 pub mod memory;
 
 use crate::memory::BurstReport;
+use crate::memory::DeliverReport;
 use crate::memory::Handler;
 
 // What a call returns and what is stored.
 pub struct Done {
     pub code: u32,
     pub held: Handler,
+}
+
+// Of a delivery, which has a report of its own, on a refusal too.
+pub struct DeliverDone {
+    pub code: u32,
+    pub held: Handler,
+    pub report: DeliverReport,
 }
 
 // Of a burst, which has a report of its own.

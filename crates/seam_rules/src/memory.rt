@@ -87,6 +87,12 @@ pub struct BurstReport {
     pub steps: [Report; 16],
 }
 
+// What the last delivery said, a refused one too: how many of the delivered bytes are the PDU's; 0 if it was Malformed.
+#[repr(C)]
+pub struct DeliverReport {
+    pub length: u64,
+}
+
 // The handler: `number` is the next put's; `step` is 0 Idle, 1 SendingMetadata, 2 SendingFileData, 3 SendingEof, 4 WaitingForEofAck,
 // 5 WaitingForFinished, 6 Closing, and any other number is Idle.
 #[repr(C)]

@@ -28,13 +28,14 @@ pub enum Written {
     Wrote(usize),
 }
 
-// A delivery's header, and where its body starts and ends among the delivered bytes.
+// A delivery's header, where its body starts and ends among the delivered bytes, and how many of these are the PDU's; what stands behind is fill.
 pub struct Frame {
     pub head: Head,
     pub filedata: bool,
     pub tosender: bool,
     pub start: usize,
     pub end: usize,
+    pub length: usize,
 }
 
 pub enum Framed {
@@ -295,9 +296,16 @@ pub enum Answer {
     Refused(Refusal),
 }
 
-// Of a put and of a delivery.
+// Of a put.
 pub struct Done {
     pub answer: Answer,
+    pub state: State,
+}
+
+// Of a delivery: how many of the delivered bytes are the PDU's, on a refusal too (0: Malformed).
+pub struct Delivered {
+    pub answer: Answer,
+    pub length: usize,
     pub state: State,
 }
 
