@@ -18,22 +18,22 @@ use Rattle.basis.proofs.Bytes.{be-num, num-lt, bytes-take, bytes-drop, byte-num
 use Rattle.rules_pdu.specs.Fields.{Field, nat, raw, wire}
 use Rattle.rules_pdu.specs.Numbers.{F, C}
 use Rattle.rules_pdu.specs.Layout.{Said, ackFinished, layout, isFileData, Pdu}
-use Rattle.rules_pdu.specs.Reading.{wellFramed, hIn, bodyEnd, bodyIn, reserved}
-use Rattle.rules_pdu.specs.Decoding.{metadataIn, dataIn, eofIn, ackFinishedIn, saidIn, withHead, decode}
+use Rattle.rules_pdu.specs.Reading.{wellFramed, hIn, endIn, bodyEnd, bodyIn, reserved}
+use Rattle.rules_pdu.specs.Decoding.{metadataIn, dataIn, eofIn, ackFinishedIn, saidIn, withHead, decodeFirst, decode}
 use Rattle.rules_pdu.specs.PduLaws.{Sayable, cleared, IsPdu, IsSaid, DecodeExactly}
 use Rattle.types.specs.declared.Head.{Head}
 use Rattle.types.specs.declared.Frame.{Frame}
 use Rattle.rules_pdu.proofs.Places.{At, at-start}
-use Rattle.rules_pdu.proofs.Round.{body-read, decode-read, said-read}
+use Rattle.rules_pdu.proofs.Round.{whole, end-read, body-read, first-read, alone-read, said-read}
 use Rattle.rules_pdu.proofs.Heard.{one-byte}
 use Rattle.rules_pdu.proofs.Unjudged.{said-spare}
-use Rattle.rules_pdu.proofs.ExactFrame.{frames, tests, flag-bit, some-pdu}
+use Rattle.rules_pdu.proofs.ExactFrame.{frames, own, tests, flag-bit, empty, some-pdu}
 
 -- ---- what the layouts give is read
 
-is-read : {s : List ℕ} {p : Pdu} → Bytes s → IsSaid s p → decode s ≡ some p
+is-read : {s : List ℕ} {p : Pdu} {fill : List ℕ} → Bytes s → IsSaid s p fill → decodeFirst s ≡ some p
 is-read {s} {p} y i =
-    decode-read (frames y (i .framed))
+    first-read (frames y (i .framed))
     ∙ ap (withHead (p .head)) (by-type (isFileData (p .said)) (i .body) (i .says) (λ c e. said-read (p .head) (p .said) (at-start _ _ (sym e)) (i .sayable)))
   where
     by-type : (t : Bool) (b : List ℕ) → wire (layout (p .head .large) (p .said)) ≡ pick t b (cleared b)
@@ -187,52 +187,84 @@ said-given h false b y l =
 
 abbrev Decoded : List ℕ → Option Pdu → Type 0
 Decoded s none = Unit {0}
-Decoded s (some p) = IsSaid s p
+Decoded s (some p) = (fill : List ℕ) × IsSaid s p fill
 
-in-frame : {s : List ℕ} {f : Frame} {body : List ℕ} → IsPdu s f body → f .tosender ≡ false → (r : Option Said) → Given (f .head) (f .filedata) body r
-    → Decoded s (withHead (f .head) r)
-in-frame i e none g = tt
-in-frame {s} {f} {body} i e (some m) g =
-    record {
-      body = body;
-      framed = record {
-        fit = i .fit;
-        short = i .short;
-        front = i .front;
-        laid = rw (g .0) (rw e at (i .laid));
-        closes = i .closes;
-        starts = refl;
-        ends = refl;
-      };
-      sayable = g .1;
-      says = rw (g .0) (g .2);
-    }
+in-frame : {s : List ℕ} {f : Frame} {body fill : List ℕ} → Bytes s → IsPdu s f body fill → f .tosender ≡ false
+    → (r : Option Said) → Given (f .head) (f .filedata) body r → Decoded s (withHead (f .head) r)
+in-frame y i e none g = tt
+in-frame {s} {f} {body} {fill} y i e (some m) g =
+    let o = own y i in (
+      fill,
+      record {
+        body = body;
+        framed = record {
+          fit = i .fit;
+          short = i .short;
+          front = i .front;
+          laid = rw (g .0) (rw e at (i .laid));
+          closes = i .closes;
+          starts = refl;
+          ends = refl;
+          belong = omega (arith, o);
+        };
+        sayable = g .1;
+        says = rw (g .0) (g .2);
+      },
+    )
 
 body-bytes : (s : List ℕ) → Bytes s → Bytes (bodyIn s)
 unfolding bodyIn part
 body-bytes s y = bytes-take (bodyEnd s - hIn s) (drop (hIn s) s) (bytes-drop (hIn s) s y)
 
-decoded : (s : List ℕ) → Bytes s → Decoded s (decode s)
-unfolding decode
+decoded : (s : List ℕ) → Bytes s → Decoded s (decodeFirst s)
+unfolding decodeFirst
 decoded s y = go (wellFramed s) refl
   where
-    go : (t : Bool) → wellFramed s ≡ t → Decoded s (decode s)
+    go : (t : Bool) → wellFramed s ≡ t → Decoded s (decodeFirst s)
     go true e =
         let q = some-pdu s y (tests s e) in
-        let f = frames y (q .2) in
+        let f = frames y (q .3) in
         let b : Bytes (q .1) = subst Bytes (body-read f) (body-bytes s y) in
         let h = q .0 .head in
-        rw (decode-read f)
+        rw (first-read f)
         (cases (Decoded s) (q .0 .tosender) none (withHead h (saidIn (q .0 .filedata) (h .large) (q .1))) (λ t. tt)
-        (λ t. in-frame (q .2) t (saidIn (q .0 .filedata) (h .large) (q .1)) (said-given h (q .0 .filedata) (q .1) b (f .short))))
+        (λ t. in-frame y (q .3) t (saidIn (q .0 .filedata) (h .large) (q .1)) (said-given h (q .0 .filedata) (q .1) b (f .short))))
     go false e = rw e tt
+
+-- ---- with nothing behind
+
+module _ (s : List ℕ) (y : Bytes s) where
+  abbrev Alone : Option Pdu → Type 0
+  Alone none = Unit {0}
+  Alone (some p) = IsSaid s p []
+
+  no-fill : (r : Option Pdu) → length s ≡ endIn s → Decoded s r → Alone r
+  no-fill none e d = tt
+  no-fill (some p) e d =
+      let f = frames y (d .1 .framed) in
+      let w = whole f in
+      let n = end-read f in
+      subst (IsSaid s p) (empty (d .0) (omega (arith, w, n, e))) (d .1)
+
+  alone : Alone (decode s)
+  unfolding decode
+  alone = cases Alone (eqb (length s) (endIn s)) (decodeFirst s) none (λ e. no-fill (decodeFirst s) (eqb-true (length s) (endIn s) e) (decoded s y)) (λ n. tt)
+
+  is-alone : {p : Pdu} → IsSaid s p [] → decode s ≡ some p
+  is-alone i = alone-read (frames y (i .framed)) ∙ is-read y i
 
 pub decode-exactly : DecodeExactly
 decode-exactly s y = (
-  λ p. (λ e. subst (Decoded s) e (decoded s y), is-read y),
-  (λ e p i. false≢true (cc (e, is-read y i)), nothing (decode s) (decoded s y)),
+  λ p. (λ e. subst (Decoded s) e (decoded s y), λ i. is-read y (i .1)),
+  (λ e p fill i. false≢true (cc (e, is-read y i)), nothing (decodeFirst s) (decoded s y)),
+  λ p. (λ e. subst (Alone s y) e (alone s y), is-alone s y),
+  (λ e p i. false≢true (cc (e, is-alone s y i)), not-alone (decode s) (alone s y)),
 )
   where
-    nothing : (r : Option Pdu) → Decoded s r → ((p : Pdu) → IsSaid s p → ⊥) → r ≡ none
+    nothing : (r : Option Pdu) → Decoded s r → ((p : Pdu) (fill : List ℕ) → IsSaid s p fill → ⊥) → r ≡ none
     nothing none d n = refl
-    nothing (some p) d n = absurd (n p d)
+    nothing (some p) d n = absurd (n p (d .0) (d .1))
+
+    not-alone : (r : Option Pdu) → Alone s y r → ((p : Pdu) → IsSaid s p [] → ⊥) → r ≡ none
+    not-alone none d n = refl
+    not-alone (some p) d n = absurd (n p d)

@@ -22,7 +22,7 @@ use Rattle.types.specs.declared.Head.{Head}
 use Rattle.types.specs.declared.SegmentRequest.{SegmentRequest}
 use Rattle.types.specs.declared.Body.the-variants.{Means}
 use Rattle.rules_pdu.proofs.Places.{At, at-start, past, num-at, byte-at, whole-length, opened, length-wire}
-use Rattle.rules_pdu.proofs.Round.{pdu-frames, filedata-read, tosender-read, head-read, behind-head, body-read, well-framed-read}
+use Rattle.rules_pdu.proofs.Round.{pdu-frames, pdu-reported, filedata-read, tosender-read, head-read, behind-head, body-read, well-framed-read}
 
 -- ---- TLVs: what the grammar derives, the test takes
 
@@ -183,12 +183,13 @@ code-there large m =
 
 pub heard-read : HeardRead
 unfolding encodeHeard framedIn frameIn bodyOf
-heard-read h m f y l =
+heard-read h m fill f y l =
     let b = wire (layoutHeard (h .large) m) in
-    let p = pdu-frames h false true b f l in
+    let p = pdu-frames h false true b fill f l in
     let o = p .opens in (
       rw (well-framed-read p),
       head-read o,
+      pdu-reported h false true b fill f l .1,
       simp (filedata-read o, tosender-read o, head-read o, body-read p, code-there (h .large) m, heard-body (h .large) m (at-start b (layoutHeard (h .large) m) refl) y),
-      heard-requests h m (encodeHeard h m) _ (opened (layoutHeard (h .large) m) (behind-head o)) y,
+      heard-requests h m (encodeHeard h m ++ fill) _ (opened (layoutHeard (h .large) m) (behind-head o)) y,
     )

@@ -6,7 +6,7 @@ use mathlib.Core.Bool.{Bool, true, false, false≢true}
 use mathlib.Core.List.{List, [], _∷_, _++_, append-assoc, append-nil}
 use mathlib.Core.Option.{none, some}
 use Prim.Native.Nat.{ℕ, _+_, _-_, _*_, _/_, _%_, _^_, _<_, _≤_}
-use native.Mathlib.Nat.{add-sub-cancel, zero-add}
+use native.Mathlib.Nat.{add-zero, zero-add}
 use native.Mathlib.Omega.{arith}
 use lib.ListN.{length, take, drop, length-append}
 use lib.Dec.{eqb, leb, ltb}
@@ -20,11 +20,12 @@ use Rattle.rules_pdu.specs.Fields.{Field, nat, raw, wire}
 use Rattle.rules_pdu.specs.Numbers.{goodWidth, H, F, C, isLarge}
 use Rattle.rules_leaves.specs.Checksum.{crc16}
 use Rattle.rules_pdu.specs.Layout.{Said, metadata, fileData, eof, ackFinished, byte0, byte3, headFields, headBytes, layout, trailer, pduBytes, isFileData, Pdu, bodyBytes, encode, pduLength}
-use Rattle.rules_pdu.specs.Reading.{bitIn, versionIn, fileDataIn, toSenderIn, unacknowledgedIn, crcIn, largeIn, lengthIn, idWidthIn, seqWidthIn, headIn, hIn, endIn, crcAgrees, crcGood, wellFramed, bodyEnd, bodyIn}
-use Rattle.rules_pdu.specs.Decoding.{metadataIn, dataIn, eofIn, ackFinishedIn, saidIn, withHead, decode, isEofIn, fileDataOf}
-use Rattle.rules_pdu.specs.PduLaws.{Fit, Sayable, RoundTrip, SameBytes, CrcChecks, LengthAgrees, HeadersDiffer, WidthsExactly}
+use Rattle.rules_pdu.specs.Reading.{bitIn, versionIn, fileDataIn, toSenderIn, unacknowledgedIn, crcIn, largeIn, lengthIn, idWidthIn, seqWidthIn, headIn, hIn, endIn, crcAgrees, crcGood, wellFramed, bodyEnd, frameIn, framedIn, bodyIn}
+use Rattle.rules_pdu.specs.Decoding.{metadataIn, dataIn, eofIn, ackFinishedIn, saidIn, withHead, decodeFirst, decode, isEofIn, fileDataOf}
+use Rattle.rules_pdu.specs.PduLaws.{Fit, Sayable, RoundTrips, SameBytes, CrcChecks, LengthAgrees, HeadersDiffer, WidthsExactly}
 use Rattle.types.specs.declared.Head.{Head}
 use Rattle.types.specs.declared.EntityId.{EntityId}
+use Rattle.types.specs.declared.Framed.the-variants.{Whole}
 use Rattle.rules_pdu.proofs.Places.{At, at-start, past, part-at, num-at, byte-at, rest-at, whole-length, opened, length-wire}
 use Rattle.rules_pdu.proofs.Spare.{eof-byte, metadata-byte, ack-byte}
 use Rattle.rules_leaves.proofs.Sums.{crc16-lt}
@@ -179,41 +180,56 @@ module _ {s : List ℕ} {h : Head} {filedata tosender : Bool} {n : ℕ} {fs : Li
 
 -- ---- the frame, over any body and direction
 
-length-trailer : (crc : Bool) (bs : List ℕ) → length (trailer crc bs) ≡ C crc
+pub length-trailer : (crc : Bool) (bs : List ℕ) → length (trailer crc bs) ≡ C crc
 unfolding trailer
 length-trailer true bs = length-be 2 (crc16 bs)
 length-trailer false bs = refl
 
--- the last two bytes are a number, behind the bytes before them
-pub last-two : (bs : List ℕ) (v : ℕ) → v < 65536
-    → (take (length (bs ++ be 2 v) - 2) (bs ++ be 2 v) ≡ bs) × (numAt (bs ++ be 2 v) (length (bs ++ be 2 v) - 2) 2 ≡ v)
-unfolding numAt part be
-last-two bs v h =
-    let e : length (bs ++ be 2 v) - 2 ≡ length bs = simp (length-append, length-be, add-sub-cancel) in
-    (rw e (take-append-seam bs (be 2 v)), rw (e, drop-append-seam) (num-be 2 v h))
+-- two bytes that are a number, behind the bytes before them and whatever stands behind
+pub two-behind : (bs : List ℕ) (v : ℕ) (fill : List ℕ) → v < 65536
+    → let s = (bs ++ be 2 v) ++ fill in (take (length bs) s ≡ bs) × (numAt s (length bs) 2 ≡ v)
+unfolding numAt part
+two-behind bs v fill h =
+    let e = append-assoc bs (be 2 v) fill in
+    let t : take 2 (be 2 v ++ fill) ≡ be 2 v = rw (length-be 2 v) at (take-append-seam (be 2 v) fill) in
+    (rw e (take-append-seam bs (be 2 v ++ fill)), rw (e, drop-append-seam, t) (num-be 2 v h))
 
-crc-over : (bs : List ℕ) (crc : Bool) → crc ≡ true
-    → let s = bs ++ trailer crc bs in numAt s (length s - 2) 2 ≡ crc16 (take (length s - 2) s)
+crc-over : (bs fill : List ℕ) (crc : Bool) → crc ≡ true
+    → let s = (bs ++ trailer crc bs) ++ fill in numAt s (length bs) 2 ≡ crc16 (take (length bs) s)
 unfolding trailer
-crc-over bs true e = let t = last-two bs (crc16 bs) (crc16-lt bs) in t .1 ∙ ap crc16 (sym (t .0))
-crc-over bs false e = absurd (false≢true e)
+crc-over bs fill true e = let t = two-behind bs (crc16 bs) fill (crc16-lt bs) in t .1 ∙ ap crc16 (sym (t .0))
+crc-over bs fill false e = absurd (false≢true e)
 
--- bytes that are a PDU: header, body, and the CRC over what stands before it
-pub record Frames (s : List ℕ) (h : Head) (filedata tosender : Bool) (body : List ℕ) : Type 0 where
+-- bytes that are a PDU with fill behind it: header, body, and the CRC over what stands before it
+pub record Frames (s : List ℕ) (h : Head) (filedata tosender : Bool) (body fill : List ℕ) : Type 0 where
   pub front : List ℕ
-  pub closes : front ++ trailer (h .crc) front ≡ s
-  pub opens : Opens s h filedata tosender (length body + C (h .crc)) (raw body ∷ raw (trailer (h .crc) front) ∷ [])
+  pub closes : (front ++ trailer (h .crc) front) ++ fill ≡ s
+  pub opens : Opens s h filedata tosender (length body + C (h .crc)) (raw body ∷ raw (trailer (h .crc) front) ∷ raw fill ∷ [])
   pub short : length body + C (h .crc) < 65536
 
-module _ {s : List ℕ} {h : Head} {filedata tosender : Bool} {body : List ℕ} (p : Frames s h filedata tosender body) where
+module _ {s : List ℕ} {h : Head} {filedata tosender : Bool} {body fill : List ℕ} (p : Frames s h filedata tosender body fill) where
   pub length-read : lengthIn s ≡ length body + C (h .crc)
   length-read = field-read (p .opens) (p .short)
 
-  whole : length s ≡ H h + (length body + C (h .crc))
+  pub whole : length s ≡ H h + (length body + C (h .crc)) + length fill
   whole = whole-length (p .opens .at) ∙ rw (length-trailer (h .crc) (p .front)) (omega arith)
 
-  end-read : length s ≡ endIn s
-  end-read = simp (h-read (p .opens), length-read, whole)
+  pub end-read : endIn s ≡ H h + (length body + C (h .crc))
+  end-read = simp (h-read (p .opens), length-read)
+
+  -- what stands before the fill, and before the CRC
+  pub own-length : length (p .front ++ trailer (h .crc) (p .front)) ≡ H h + (length body + C (h .crc))
+  own-length =
+      let e : length (p .front ++ trailer (h .crc) (p .front)) + length fill ≡ H h + (length body + C (h .crc)) + length fill
+      = sym (length-append (p .front ++ trailer (h .crc) (p .front)) fill) ∙ ap length (p .closes) ∙ whole in
+      omega (arith, e)
+
+  front-length : length (p .front) ≡ H h + length body
+  front-length =
+      let e = length-append (p .front) (trailer (h .crc) (p .front)) in
+      let t = length-trailer (h .crc) (p .front) in
+      let o = own-length in
+      omega (arith, e, t, o)
 
   pub body-end-read : bodyEnd s ≡ H h + length body
   body-end-read = simp (h-read (p .opens), length-read, crc-read (p .opens)) (omega arith)
@@ -226,7 +242,11 @@ module _ {s : List ℕ} {h : Head} {filedata tosender : Bool} {body : List ℕ} 
 
   crc-agrees : h .crc ≡ true → crcAgrees s ≡ true
   unfolding crcAgrees
-  crc-agrees e = rw (← end-read) (eq-eqb _ _ (rw (p .closes) at (crc-over (p .front) (h .crc) e)))
+  crc-agrees e =
+      let c = ap C e in
+      let l = front-length in
+      let n : endIn s - 2 ≡ length (p .front) = rw end-read (omega (arith, c, l)) in
+      rw n (eq-eqb _ _ (rw (p .closes) at (crc-over (p .front) fill (h .crc) e)))
 
   pub well-framed-read : wellFramed s ≡ true
   unfolding wellFramed crcGood
@@ -235,7 +255,8 @@ module _ {s : List ℕ} {h : Head} {filedata tosender : Bool} {body : List ℕ} 
       let a : ltb (length s) 4 ≡ false = le-ltb (length s) 4 (omega arith) in
       let i = ap goodWidth (id-width-read (p .opens)) ∙ p .opens .fit .id-width in
       let q = ap goodWidth (seq-width-read (p .opens)) ∙ p .opens .fit .seq-width in
-      simp (a, eq-eqb _ _ (version-read (p .opens)), i, q, eq-eqb _ _ end-read, crc-read (p .opens))
+      let r : ltb (length s) (endIn s) ≡ false = le-ltb (length s) (endIn s) (rw end-read (omega (arith, w))) in
+      simp (a, eq-eqb _ _ (version-read (p .opens)), i, q, r, crc-read (p .opens))
       (wherever (h .crc) (not (ltb (lengthIn s) 2) and crcAgrees s)
       (λ c. let z = ap C c in
       let b : ltb (lengthIn s) 2 ≡ false = rw length-read (le-ltb (length body + C (h .crc)) 2 (omega arith)) in
@@ -253,6 +274,13 @@ pub pdu-at : (h : Head) (filedata tosender : Bool) (body : List ℕ)
 unfolding pduBytes headBytes
 pdu-at h filedata tosender body = record { holds = simp (append-assoc, append-nil) }
 
+-- with fill behind
+filled-at : (h : Head) (filedata tosender : Bool) (body fill : List ℕ)
+    → At (pduBytes h filedata tosender body ++ fill) 0
+    (headFields h filedata tosender (length body + C (h .crc)) (raw body ∷ raw (trailer (h .crc) (front h filedata tosender body)) ∷ raw fill ∷ []))
+unfolding pduBytes headBytes
+filled-at h filedata tosender body fill = record { holds = simp (append-assoc, append-nil) }
+
 pub length-pdu : (h : Head) (filedata tosender : Bool) (body : List ℕ) → length (pduBytes h filedata tosender body) ≡ H h + (length body + C (h .crc))
 length-pdu h filedata tosender body =
     whole-length (pdu-at h filedata tosender body) ∙ rw (length-trailer (h .crc) (front h filedata tosender body)) (omega arith)
@@ -261,18 +289,38 @@ pub pdu-opens : (h : Head) (filedata tosender : Bool) (body : List ℕ) → Fit 
     → Opens (pduBytes h filedata tosender body) h filedata tosender (length body + C (h .crc)) (raw body ∷ raw (trailer (h .crc) (front h filedata tosender body)) ∷ [])
 pdu-opens h filedata tosender body f = written-opens h filedata tosender _ _ f (pdu-at h filedata tosender body)
 
-pub pdu-frames : (h : Head) (filedata tosender : Bool) (body : List ℕ) → Fit h → length body + C (h .crc) < 65536
-    → Frames (pduBytes h filedata tosender body) h filedata tosender body
+pub pdu-frames : (h : Head) (filedata tosender : Bool) (body fill : List ℕ) → Fit h → length body + C (h .crc) < 65536
+    → Frames (pduBytes h filedata tosender body ++ fill) h filedata tosender body fill
 unfolding pduBytes
-pdu-frames h filedata tosender body f l =
-    record { front = front h filedata tosender body; closes = refl; opens = pdu-opens h filedata tosender body f; short = l }
+pdu-frames h filedata tosender body fill f l =
+    record {
+      front = front h filedata tosender body;
+      closes = refl;
+      opens = written-opens h filedata tosender _ _ f (filled-at h filedata tosender body fill);
+      short = l;
+    }
+
+-- what is reported of them
+pub pdu-reported : (h : Head) (filedata tosender : Bool) (body fill : List ℕ) → Fit h → length body + C (h .crc) < 65536
+    → let s = pduBytes h filedata tosender body ++ fill in
+    (framedIn s ≡ Whole (frameIn s)) × (frameIn s .length ≡ length (pduBytes h filedata tosender body))
+unfolding framedIn frameIn
+pdu-reported h filedata tosender body fill f l =
+    let p = pdu-frames h filedata tosender body fill f l in
+    (rw (well-framed-read p), end-read p ∙ sym (length-pdu h filedata tosender body))
 
 -- bytes that are a PDU are read by direction, type and body
-pub decode-read : {s : List ℕ} {h : Head} {filedata tosender : Bool} {body : List ℕ} → Frames s h filedata tosender body
-    → decode s ≡ pick tosender none (withHead h (saidIn filedata (h .large) body))
-unfolding decode
-decode-read p =
+pub first-read : {s : List ℕ} {h : Head} {filedata tosender : Bool} {body fill : List ℕ} → Frames s h filedata tosender body fill
+    → decodeFirst s ≡ pick tosender none (withHead h (saidIn filedata (h .large) body))
+unfolding decodeFirst
+first-read p =
     simp (well-framed-read p, tosender-read (p .opens), head-read (p .opens), filedata-read (p .opens), large-read (p .opens), body-read p)
+
+-- with nothing behind them
+pub alone-read : {s : List ℕ} {h : Head} {filedata tosender : Bool} {body : List ℕ} → Frames s h filedata tosender body []
+    → decode s ≡ decodeFirst s
+unfolding decode
+alone-read p = rw (eq-eqb _ _ (whole p ∙ add-zero _ ∙ sym (end-read p)))
 
 -- ---- the bodies, each of any bytes that hold its layout
 
@@ -336,21 +384,34 @@ length-body h (fileData o bs) y = let z = flag-lt (h .crc) in let w = flag-lt (h
 length-body h (eof c k n) y = let z = flag-lt (h .crc) in let w = flag-lt (h .large) in simp length-wire (omega arith)
 length-body h (ackFinished c t) y = let z = flag-lt (h .crc) in simp length-wire (omega arith)
 
-pub round-trip : RoundTrip
+pub round-trip : RoundTrips
 unfolding encode bodyBytes
 round-trip h m f y =
-    decode-read (pdu-frames h (isFileData m) false (bodyBytes (h .large) m) f (length-body h m y)) ∙ ap (withHead h) (said-read h m (at-start _ _ refl) y)
+    let b = bodyBytes (h .large) m in
+    let l = length-body h m y in
+    let e = append-nil (encode h m) in
+    let first : (fill : List ℕ) → decodeFirst (encode h m ++ fill) ≡ some (record { head = h; said = m })
+    = λ fill. first-read (pdu-frames h (isFileData m) false b fill f l) ∙ ap (withHead h) (said-read h m (at-start _ _ refl) y) in
+    record {
+      alone = rw e at (alone-read (pdu-frames h (isFileData m) false b [] f l) ∙ first []);
+      first = first;
+      reported = λ fill. pdu-reported h (isFileData m) false b fill f l;
+    }
 
 pub same-bytes : SameBytes
 same-bytes h g m n f k y z e =
-    let a = round-trip h m f y in
-    let b = round-trip g n k z in
+    let a = round-trip h m f y .alone in
+    let b = round-trip g n k z .alone in
     let p : _≡_ {A = Pdu} (record { head = h; said = m }) (record { head = g; said = n }) = cc (ap decode e) in
     (ap (λ (x : Pdu). x .head) p, ap (λ (x : Pdu). x .said) p)
 
 pub crc-checks : CrcChecks
 unfolding encode pduBytes
-crc-checks h m f e = crc-over (front h (isFileData m) false (bodyBytes (h .large) m)) (h .crc) e
+crc-checks h m f e =
+    let bs = front h (isFileData m) false (bodyBytes (h .large) m) in
+    let c = ap C e in
+    let n : length (bs ++ trailer (h .crc) bs) - 2 ≡ length bs = rw (length-append bs (trailer (h .crc) bs), length-trailer (h .crc) bs) (omega (arith, c)) in
+    rw n (rw (append-nil (bs ++ trailer (h .crc) bs)) at (crc-over bs [] (h .crc) e))
 
 pub length-encode : (h : Head) (m : Said) → length (encode h m) ≡ pduLength h m
 unfolding encode pduLength bodyBytes
@@ -361,7 +422,8 @@ pub length-agrees : LengthAgrees
 unfolding encode
 length-agrees h m f y =
     let b = bodyBytes (h .large) m in
-    (length-encode h m, rw (length-read (pdu-frames h (isFileData m) false b f (length-body h m y))) (sym (length-pdu h (isFileData m) false b)))
+    let p = pdu-frames h (isFileData m) false b [] f (length-body h m y) in
+    (length-encode h m, rw (rw (append-nil (pduBytes h (isFileData m) false b)) at (length-read p)) (sym (length-pdu h (isFileData m) false b)))
 
 pub headers-differ : HeadersDiffer
 unfolding headBytes
@@ -403,7 +465,7 @@ eof-seen h (ackFinished c t) f = directive h 6 (behind (layout (h .large) (ackFi
 
 pub file-data : (h : Head) (o : ℕ) (bs : List ℕ) → Fit h → Sayable h (fileData o bs) → fileDataOf (encode h (fileData o bs)) ≡ some (o, bs)
 unfolding fileDataOf
-file-data h o bs f y = rw (round-trip h (fileData o bs) f y)
+file-data h o bs f y = rw (round-trip h (fileData o bs) f y .alone)
 
 -- the large flag's rule is enough: a size fits its field
 pub size-fits : (S : ℕ) → S < 2 ^ 64 → S < 2 ^ (8 * F (isLarge S))
