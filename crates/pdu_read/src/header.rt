@@ -15,7 +15,7 @@ use types::TransactionSeqNum;
 ghost use mathlib.Core.Path.{_≡_};
 ghost use Prim.Native.Nat.{_<_, _≤_, _^_};
 ghost use Rattle.rules_pdu.specs.Numbers.{goodWidth, C};
-ghost use Rattle.rules_pdu.specs.Reading.{bitIn, versionIn, crcIn, lengthIn, idWidthIn, seqWidthIn, headIn, hIn, endIn, bodyEnd, crcAgrees, crcGood, wellFramed, frameIn, framedIn};
+ghost use Rattle.rules_pdu.specs.Reading.{bitIn, versionIn, crcIn, lengthIn, idWidthIn, seqWidthIn, headIn, hIn, endIn, crcAgrees, crcGood, wellFramed, frameIn, framedIn};
 
 // ---- byte 0
 
@@ -122,7 +122,7 @@ fn head_length(s: &[u8]) -> usize
     4 + 2 * i + n
 }
 
-// Where the PDU ends, by its own header.
+// Where the PDU ends, by its own header. What stands behind is fill.
 fn pdu_end(s: &[u8]) -> usize
     ensures { λ r. ⌜ (r ≡ endIn (now (s .entry))) × (r < 65564) ⌝ }
 {
@@ -134,14 +134,6 @@ fn crc_length(s: &[u8]) -> usize
     ensures { λ r. ⌜ (r ≡ C (crcIn (now (s .entry)))) × (r ≤ 2) ⌝ }
 {
     if has_crc(s) { 2 } else { 0 }
-}
-
-// Where the body ends: its CRC is no part of it.
-fn body_end(s: &[u8]) -> usize
-    ensures { λ r. ⌜ r ≡ bodyEnd (now (s .entry)) ⌝ }
-{
-    let e = pdu_end(s);
-    e - crc_length(s)
 }
 
 fn crc_agrees(s: &[u8]) -> bool
@@ -180,7 +172,7 @@ fn well_framed(s: &[u8]) -> bool
     if !good_seq_width(s) {
         return false;
     }
-    if s.len() != pdu_end(s) {
+    if s.len() < pdu_end(s) {
         return false;
     }
     crc_good(s)
@@ -194,13 +186,16 @@ fn frame_in(s: &[u8]) -> Frame
     let filedata = bit(b0, 4);
     let tosender = bit(b0, 3);
     let start = head_length(s);
-    let end = body_end(s);
+    let length = pdu_end(s);
+    // the body ends in front of its CRC
+    let end = length - crc_length(s);
     Frame {
         head,
         filedata,
         tosender,
         start,
         end,
+        length,
     }
 }
 
