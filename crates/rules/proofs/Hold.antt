@@ -39,7 +39,7 @@ use Rattle.types.specs.declared.Refusal.{Refusal}
 use Rattle.types.specs.declared.Done.{Done}
 use Rattle.rules.proofs.Tiles.{tiles-zero, tiles-step, tiles-one, Within, within-more}
 use Rattle.rules.proofs.Pending.{pending-none, pending-first, Orderly, orderly-more, due-within, served-answers, orderly-served}
-use Rattle.rules.proofs.Outcomes.{put-by, cancel-by, delivered-by, nak-adds, Taken}
+use Rattle.rules.proofs.Outcomes.{put-by, cancel-by, delivered-by, nak-adds, Taken, outcome}
 use Rattle.rules.proofs.Summed.{OfFile, of-file-on}
 use Rattle.rules.proofs.Emits.{bytesOf, Sends, encode-pos, StepShows, step-shows}
 
@@ -387,7 +387,7 @@ module _ (w : Transfer) (s : State) (i : Inv w s) where
   by-table bytes f Closing m e h x t = absurd h
 
   deliver-moves : (bytes : List ℕ) → Moves w s (shows (deliver bytes) s) (after (deliver bytes) s)
-  deliver-moves bytes = go (deliverSpec s bytes) (delivered-by s (Takes w s) (λ rs r. turns r) (λ x f m t. by-table x f (s .step) m refl (i .here) (t .expected) t) bytes)
+  deliver-moves bytes = go (outcome (deliverSpec s bytes)) (delivered-by s (Takes w s) (λ rs r. turns r) (λ x f m t. by-table x f (s .step) m refl (i .here) (t .expected) t) bytes)
     where
       go : (r : Done) → Takes w s (requests bytes) r → Moves w s (unless (r .answer) (took bytes)) (r .state)
       go r (Takes.turns n) = refuses

@@ -269,10 +269,10 @@ asked-at s f h n a b = let e : f .start ≡ H h = b ∙ ap H a in rw (e, a)
 
 pub nak-asks : NakAsks
 unfolding requests
-nak-asks h from upto rs f y l =
-    let s = encodeHeard h (nak from upto rs) in
-    let r = heard-read h (nak from upto rs) f y l in
+nak-asks h from upto rs fill f y l =
+    let s = encodeHeard h (nak from upto rs) ++ fill in
+    let r = heard-read h (nak from upto rs) fill f y l in
     ap (requestsOfFrame s) (r .0)
-    ∙ ap (requestsOfBody s (frameIn s)) (ap (bodyOf (frameIn s)) (body-same s) ∙ r .2)
+    ∙ ap (requestsOfBody s (frameIn s)) (ap (bodyOf (frameIn s)) (body-same s) ∙ r .3)
     ∙ asked-at s (frameIn s) h (length rs) (r .1) (start-same s)
-    ∙ r .3
+    ∙ r .4

@@ -32,6 +32,7 @@ use Rattle.types.specs.declared.Refusal.{Refusal}
 use Rattle.types.specs.declared.Answer.{Answer}
 use Rattle.types.specs.declared.Answer.the-variants.{Accepted, Refused}
 use Rattle.types.specs.declared.Done.{Done}
+use Rattle.types.specs.declared.Delivered.{Delivered}
 use Rattle.types.specs.declared.Cancelled.{Cancelled}
 use Rattle.rules.proofs.Tiles.{Within}
 use Rattle.rules.proofs.Pending.{Orderly, answers-within, all-answers, orderly-all}
@@ -120,10 +121,14 @@ asked-same bytes = go (wellFramed bytes)
     go true = body (bodyOf f (bodyIn bytes))
     go false = refl
 
+-- a delivery's outcome but for the number that it reports
+abbrev pub outcome : Delivered → Done
+outcome d = record { answer = d .answer; state = d .state }
+
 -- of every refusal and of what the table says
 module _ (s : State) (P : List SegmentRequest → Done → Type 0) (no : (rs : List SegmentRequest) (r : Refusal) → P rs (refused s r))
     (yes : (bytes : List ℕ) (f : Frame) (m : Meaning) → Taken s (asked bytes f m) m → P (asked bytes f m) (accepted (byVerdict s (asked bytes f m) m (verdictOf (s .step) m)))) where
-  pub delivered-by : (bytes : List ℕ) → P (requests bytes) (deliverSpec s bytes)
+  pub delivered-by : (bytes : List ℕ) → P (requests bytes) (outcome (deliverSpec s bytes))
   unfolding deliverSpec deliverState
   delivered-by bytes = go (deliverAnswer s bytes (saidIn bytes)) refl
     where

@@ -48,7 +48,7 @@ use Rattle.types.specs.declared.Stepped.{Stepped}
 use Rattle.rules.proofs.Singly.{run, end, LendsAll, singly, as-run, as-end, as-lends}
 use Rattle.rules.proofs.Tiles.{length-answers}
 use Rattle.rules.proofs.Pending.{pending-none, Orderly, orderly-empty, orderly-more, served-answers, orderly-served}
-use Rattle.rules.proofs.Outcomes.{differ, put-by, cancel-by, delivered-by, nak-adds, Taken}
+use Rattle.rules.proofs.Outcomes.{differ, put-by, cancel-by, delivered-by, nak-adds, Taken, outcome}
 use Rattle.rules.proofs.Emits.{bytesOf, Sends, StepShows, step-shows}
 use Rattle.rules.proofs.Hold.{Inv, sent-le, owedBy, none-owed, not-idle, small-repair, small-some}
 use Rattle.rules.proofs.Stream.{Carries, all-read}
@@ -139,7 +139,7 @@ module _ (w : Transfer) (pos : 0 < w .segment) (s : State) where
   table-heeds (rests n e) bytes f m t = rw e (idle-table w n bytes f m (subst (λ (u : State). isRefuse (verdictOf (u .step) m) ≡ false) e (t .expected)))
   table-heeds (works b) bytes f m t = by-table w pos s b bytes f (s .step) m (t .expected) t
 
-  deliver-heeds : Loose w s → (bytes : List ℕ) → Heeds w s (requests bytes) (deliverSpec s bytes)
+  deliver-heeds : Loose w s → (bytes : List ℕ) → Heeds w s (requests bytes) (outcome (deliverSpec s bytes))
   deliver-heeds l bytes = delivered-by s (Heeds w s) (λ rs r. turns r) (table-heeds l) bytes
 
 -- ---- steps
@@ -231,7 +231,7 @@ data Keeps (w : Transfer) : Shown → State → Type 0 where
 
 module _ (w : Transfer) (pos : 0 < w .segment) (s : State) (l : Loose w s) where
   deliver-keeps : (bytes : List ℕ) → Keeps w (shows (deliver bytes) s) (after (deliver bytes) s)
-  deliver-keeps bytes = go (deliverSpec s bytes) (deliver-heeds w pos s l bytes)
+  deliver-keeps bytes = go (outcome (deliverSpec s bytes)) (deliver-heeds w pos s l bytes)
     where
       go : (r : Done) → Heeds w s (requests bytes) r → Keeps w (unless (r .answer) (took bytes)) (r .state)
       go r (Heeds.turns n) = keeps turned s l
@@ -335,7 +335,7 @@ module _ (w : Transfer) (pos : 0 < w .segment) (s : State) (v : Serving w s) whe
       go false e = let z = ltb-false 0 (s .queue .count) e in over (none-owed w s (pending-none (s .queue) (omega arith))) _ _ _ _ view
 
   deliver-goes : (bytes : List ℕ) → Goes w s (shows (deliver bytes) s) (after (deliver bytes) s)
-  deliver-goes bytes = go (deliverSpec s bytes) (deliver-heeds w pos s (works (v .busy)) bytes)
+  deliver-goes bytes = go (outcome (deliverSpec s bytes)) (deliver-heeds w pos s (works (v .busy)) bytes)
     where
       go : (r : Done) → Heeds w s (requests bytes) r → Goes w s (unless (r .answer) (took bytes)) (r .state)
       go r (Heeds.turns n) = stays
@@ -425,7 +425,7 @@ nak-answered h c q source destination file b z a cs k f g bytes n x ds j y m =
     let s = putSpec h c q source destination (length file) .state in
     let v = carries h c q source destination file p b z in
     let l = keeps-by _ (v .pos) cs s (loosened _ s (begun h c q source destination file p)) k f g in
-    all-served _ v (behind cs s) l bytes n (deliverSpec (behind cs s) bytes) (deliver-heeds _ (v .pos) (behind cs s) l bytes) x ds j y m
+    all-served _ v (behind cs s) l bytes n (outcome (deliverSpec (behind cs s) bytes)) (deliver-heeds _ (v .pos) (behind cs s) l bytes) x ds j y m
 
 pub bench-sheet : BenchSheet
 bench-sheet h c q source destination file b z a cs k f g none-pending bytes n x ds j y m =

@@ -17,10 +17,10 @@ use Rattle.basis.proofs.Pick.{cases, flag-lt}
 use Rattle.basis.proofs.Laid.{front, in-front, taken}
 use Rattle.rules_pdu.specs.Numbers.{F, C}
 use Rattle.rules_pdu.specs.Layout.{Said, ackFinished, encode}
-use Rattle.rules_pdu.specs.Reading.{wellFramed, reserved}
+use Rattle.rules_pdu.specs.Reading.{reserved}
 use Rattle.rules_pdu.specs.Decoding.{withHead, decode}
 use Rattle.rules_pdu.specs.PduLaws.{Fit, Sayable}
-use Rattle.rules_pdu.proofs.Round.{round-trip, size-fits}
+use Rattle.rules_pdu.proofs.Round.{read-back, nothing-read, size-fits}
 use Rattle.rules.specs.States.{idle}
 use Rattle.rules.specs.Queues.{pending, isMetadata, owes, oldest, pop}
 use Rattle.rules.specs.Step.{dueOf, repairOf, closing, closureBit, sendingOf, bytesFor, bytesDue, eventsOf, afterOf, changed, performed, stepSpec, stepBytes}
@@ -49,9 +49,8 @@ Can h none = Unit {0}
 Can h (some m) = Fit h × Sayable h m
 
 decode-written : (h : Head) (x : Option Said) → Can h x → decode (bytesOf h x) ≡ withHead h x
-unfolding decode wellFramed
-decode-written h none c = refl
-decode-written h (some m) c = round-trip h m (c .0) (c .1)
+decode-written h none c = nothing-read
+decode-written h (some m) c = read-back h m (c .0) (c .1)
 
 -- ---- in a good state each PDU can be said
 

@@ -21,7 +21,7 @@ use Rattle.rules.specs.Demand.{Transfer, meant, planned, lastly, Tiled}
 use Rattle.rules.specs.Companions.{carried}
 use Rattle.types.specs.declared.Sending.{Sending}
 use Rattle.types.specs.declared.Sending.the-variants.{Nothing as NoPdu, Metadata as MetadataPdu, FileData, Eof as EofPdu, AckFinished}
-use Rattle.rules_pdu.proofs.Round.{round-trip, file-data, eof-seen}
+use Rattle.rules_pdu.proofs.Round.{read-back, file-data, eof-seen}
 use Rattle.rules.proofs.Tiles.{Tiling, tiled-tiles, tiled-le, Within, tiles-within, sizes}
 use Rattle.rules.proofs.Emits.{bytesOf}
 use Rattle.rules.proofs.Hold.{Small}
@@ -54,7 +54,7 @@ module _ (w : Transfer) (c : Carries w) where
   -- ---- each PDU
 
   metadata-read : decode (bytesOf w MetadataPdu) ≡ meant w MetadataPdu
-  metadata-read = round-trip (w .head) _ (c .fit) (c .type, c .size, c .source, c .destination)
+  metadata-read = read-back (w .head) _ (c .fit) (c .type, c .size, c .source, c .destination)
 
   pub taken-length : (a n : ℕ) → a + n ≤ length (w .file) → length (take n (drop a (w .file))) ≡ n
   taken-length a n h = simp (length-take, length-drop) (omega arith)
@@ -69,11 +69,11 @@ module _ (w : Transfer) (c : Carries w) where
       (omega arith, omega arith)
 
   data-read : (a n : ℕ) → a + n ≤ length (w .file) → n ≤ w .segment → decode (bytesOf w (FileData a n)) ≡ meant w (FileData a n)
-  data-read a n h l = round-trip (w .head) _ (c .fit) (data-sayable a n h l)
+  data-read a n h l = read-back (w .head) _ (c .fit) (data-sayable a n h l)
 
   pub last-read : decode (bytesOf w (lastly w)) ≡ meant w (lastly w)
   unfolding reserved
-  last-read = round-trip (w .head) _ (c .fit) (omega arith, refl, c .sum, c .size)
+  last-read = read-back (w .head) _ (c .fit) (omega arith, refl, c .sum, c .size)
 
   pub all-read : (ps : List Sending) → Within (w .segment) (length (w .file)) ps → map decode (map (bytesOf w) ps) ≡ map (meant w) ps
   all-read [] h = refl

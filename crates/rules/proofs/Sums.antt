@@ -18,9 +18,9 @@ use Rattle.basis.proofs.Pick.{cases}
 use Rattle.rules_leaves.specs.Checksum.{sumOf, sumOn}
 use Rattle.rules_leaves.proofs.Sums.{goes-on}
 use Rattle.rules_pdu.specs.Layout.{Said, metadata, fileData, eof, ackFinished, encode}
-use Rattle.rules_pdu.specs.Reading.{bitIn, fileDataIn, idWidthIn, seqWidthIn, wellFramed}
+use Rattle.rules_pdu.specs.Reading.{bitIn, fileDataIn, idWidthIn, seqWidthIn}
 use Rattle.rules_pdu.specs.PduLaws.{Fit}
-use Rattle.rules_pdu.proofs.Round.{eof-seen}
+use Rattle.rules_pdu.proofs.Round.{nothing-read, eof-seen}
 use Rattle.rules_pdu.specs.Decoding.{withHead, decode, isEofIn, dataOfSaid, dataOfPdu, fileDataOf}
 use Rattle.rules.specs.States.{isIdle, idle}
 use Rattle.rules.specs.Queues.{isMetadata, owes, pending}
@@ -222,8 +222,8 @@ seen-first bs (went (some pdu)) es = refl
 seen-first bs ended es = refl
 
 no-bytes : fileDataOf [] ≡ none
-unfolding fileDataOf decode wellFramed
-no-bytes = refl
+unfolding fileDataOf
+no-bytes = ap dataOfPdu nothing-read
 
 seen-pdu : (bs : List ℕ) (n : ℕ) (o : List ℕ) → seen bs (went (pduIn n o)) ≡ joined bs (fileDataOf (take n o))
 seen-pdu bs zero o = sym (ap (joined bs) no-bytes)

@@ -117,12 +117,12 @@ SecondPut =
     (used .answer ≡ fresh .answer)
     × (used .answer ≡ Accepted → (used .state ≡ fresh .state) × ((cs : List Call) → trace cs (used .state) ≡ trace cs (fresh .state)))
 
--- PROMISE nak-asks: of a NAK that a peer writes by the layouts, R counts the peer's own requests.
+-- PROMISE nak-asks: of a NAK that a peer writes by the layouts, with anything behind it, R counts the peer's own requests.
 abbrev pub NakAsks : Type 0
 NakAsks =
-    (h : Head) (from upto : ℕ) (rs : List SegmentRequest)
+    (h : Head) (from upto : ℕ) (rs : List SegmentRequest) (fill : List ℕ)
     → Fit h → Hearable (h .large) (nak from upto rs) → length (wire (layoutHeard (h .large) (nak from upto rs))) + C (h .crc) < 65536
-    → requests (encodeHeard h (nak from upto rs)) ≡ rs
+    → requests (encodeHeard h (nak from upto rs) ++ fill) ≡ rs
 
 -- PROMISE nak-answered: also after the EOF. A NAK with requests is accepted somewhere after the put; then, while no other call is accepted, the
 -- steps emit the answers to what was pending and then to its requests, each whole and in order.

@@ -13,7 +13,7 @@ use lib.Dec.{eqb, leb, ltb}
 use lib.Seq.{take-append-seam, drop-append-seam}
 use borrow.Author.Tests.{eqb-true, ltb-false, eq-eqb, le-leb, le-ltb}
 use Rattle.basis.specs.Pick.{pick, _and_, not, flag}
-use Rattle.basis.specs.Bytes.{be, part, byte, numAt}
+use Rattle.basis.specs.Bytes.{be, num, part, byte, numAt}
 use Rattle.basis.proofs.Pick.{wherever, cases, flag-lt, eqb-flag}
 use Rattle.basis.proofs.Bytes.{length-be, num-be}
 use Rattle.rules_pdu.specs.Fields.{Field, nat, raw, wire}
@@ -398,10 +398,17 @@ round-trip h m f y =
       reported = λ fill. pdu-reported h (isFileData m) false b fill f l;
     }
 
+pub read-back : (h : Head) (m : Said) → Fit h → Sayable h m → decode (encode h m) ≡ some (record { head = h; said = m })
+read-back h m f y = round-trip h m f y .alone
+
+pub nothing-read : decode [] ≡ none
+unfolding decode lengthIn idWidthIn seqWidthIn byte numAt part num
+nothing-read = refl
+
 pub same-bytes : SameBytes
 same-bytes h g m n f k y z e =
-    let a = round-trip h m f y .alone in
-    let b = round-trip g n k z .alone in
+    let a = read-back h m f y in
+    let b = read-back g n k z in
     let p : _≡_ {A = Pdu} (record { head = h; said = m }) (record { head = g; said = n }) = cc (ap decode e) in
     (ap (λ (x : Pdu). x .head) p, ap (λ (x : Pdu). x .said) p)
 
@@ -465,7 +472,7 @@ eof-seen h (ackFinished c t) f = directive h 6 (behind (layout (h .large) (ackFi
 
 pub file-data : (h : Head) (o : ℕ) (bs : List ℕ) → Fit h → Sayable h (fileData o bs) → fileDataOf (encode h (fileData o bs)) ≡ some (o, bs)
 unfolding fileDataOf
-file-data h o bs f y = rw (round-trip h (fileData o bs) f y .alone)
+file-data h o bs f y = rw (read-back h (fileData o bs) f y)
 
 -- the large flag's rule is enough: a size fits its field
 pub size-fits : (S : ℕ) → S < 2 ^ 64 → S < 2 ^ (8 * F (isLarge S))
