@@ -4,6 +4,7 @@
 // sequence number, destination id. With the CRC flag a CRC-16 closes the data field.
 
 use crate::field::byte_at;
+use crate::field::num_in;
 use crate::field::num_of;
 use crate::field::part_of;
 use checksum::crc16;
@@ -14,6 +15,7 @@ use types::Head;
 use types::TransactionSeqNum;
 ghost use mathlib.Core.Path.{_≡_};
 ghost use Prim.Native.Nat.{_<_, _≤_, _^_};
+ghost use lib.ListN.{length};
 ghost use Rattle.rules_pdu.specs.Numbers.{goodWidth, C};
 ghost use Rattle.rules_pdu.specs.Reading.{bitIn, versionIn, crcIn, lengthIn, idWidthIn, seqWidthIn, headIn, hIn, endIn, crcAgrees, crcGood, wellFramed, frameIn, framedIn};
 
@@ -89,7 +91,9 @@ fn good_seq_width(s: &[u8]) -> bool
 
 // ---- what the header says
 
+// Of a header that is there.
 fn head_in(s: &[u8]) -> Head
+    requires { ⌜ hIn (now s) ≤ length (now s) ⌝ }
     ensures { λ r. ⌜ r ≡ headIn (now (s .entry)) ⌝ }
 {
     let b0 = byte_at(s, 0);
@@ -98,9 +102,9 @@ fn head_in(s: &[u8]) -> Head
     let large = bit(b0, 0);
     let i = id_width(s);
     let n = seq_width(s);
-    let source = num_of(s, 4, i as usize);
-    let number = num_of(s, 4 + i as usize, n as usize);
-    let destination = num_of(s, 4 + i as usize + n as usize, i as usize);
+    let source = num_in(s, 4, i as usize);
+    let number = num_in(s, 4 + i as usize, n as usize);
+    let destination = num_in(s, 4 + i as usize + n as usize, i as usize);
     Head {
         unacknowledged,
         crc,
@@ -179,6 +183,7 @@ fn well_framed(s: &[u8]) -> bool
 }
 
 fn frame_in(s: &[u8]) -> Frame
+    requires { ⌜ hIn (now s) ≤ length (now s) ⌝ }
     ensures { λ r. ⌜ r ≡ frameIn (now (s .entry)) ⌝ }
 {
     let b0 = byte_at(s, 0);
