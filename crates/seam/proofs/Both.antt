@@ -18,7 +18,7 @@ use Rattle.source_deliver.specs.declared.effect.Effect.the-variants.{Refuse, No
 use Rattle.source_step.specs.declared.bulk.Bulk.{Bulk}
 use Rattle.source_step.specs.declared.bulk.Bulk.the-variants.{Kept, Emptied, Idle}
 use Rattle.seam_rules.specs.Memory.{stateOf, fixedTaken, heldOf, reported, reportOf, noReport}
-use Rattle.seam_rules.specs.Seam.{byAnswer}
+use Rattle.seam_rules.specs.Seam.{byAnswer, reporting}
 use Rattle.types.specs.declared.State.{State}
 use Rattle.types.specs.declared.TransactionStep.the-variants.{SendingFileData, SendingEof, WaitingForFinished}
 use Rattle.types.specs.declared.Due.{Due}
@@ -90,11 +90,11 @@ told-done h o = told-as h o (o .answer)
 
 -- ---- a delivery
 
-pub heard-done : (h : Handler) (bytes : List ℕ) (e : Effect) → let q = doneBy (stateOf h) bytes e in
-    heardDone h bytes (heardBy h (stateOf h) e) ≡ byAnswer h (q .state) noReport (q .answer)
+pub heard-done : (h : Handler) (bytes : List ℕ) (n : ℕ) (e : Effect) → let q = doneBy (stateOf h) bytes e in
+    heardDone h bytes (heardBy h (stateOf h) (record { effect = e; length = n })) ≡ reporting n (byAnswer h (q .state) noReport (q .answer))
 unfolding keptLight lightOf lightHeld queued heldOf stateOf
-heard-done h bytes (Refuse k) = refl
-heard-done h bytes NoEffect = refl
-heard-done h bytes WaitForFinished = refl
-heard-done h bytes (CloseBy p) = refl
-heard-done h bytes (Enqueue large at n) = refl
+heard-done h bytes n (Refuse k) = refl
+heard-done h bytes n NoEffect = refl
+heard-done h bytes n WaitForFinished = refl
+heard-done h bytes n (CloseBy p) = refl
+heard-done h bytes n (Enqueue large at k) = refl

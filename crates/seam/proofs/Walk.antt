@@ -151,7 +151,7 @@ fields-of (tyStruct ν τs) = τs
 fields-of (tyEnum ν τss) = tnil
 fields-of (tyNamed ν) = tnil
 
-abbrev behind : Tys → Tys
+abbrev pub behind : Tys → Tys
 behind tnil = tnil
 behind (tcons τ τs) = τs
 
@@ -166,7 +166,7 @@ values-of (vfloat f x) = vnil
 values-of (vptr b o) = vnil
 values-of (vstruct vs) = vs
 
-abbrev after : Vals → Vals
+abbrev pub after : Vals → Vals
 after vnil = vnil
 after (vcons v vs) = vs
 

@@ -12,12 +12,14 @@ use Rattle.source_step.specs.declared.bulk.Bulk.the-variants.{Kept}
 use Rattle.source_step.specs.declared.outcome.Outcome.{Outcome}
 use Rattle.source_deliver.specs.Effects.{answerBy, movedBy, movesQueue}
 use Rattle.source_deliver.specs.declared.effect.Effect.{Effect}
+use Rattle.source_deliver.specs.declared.effect.Arrival.{Arrival}
 use Rattle.seam_rules.specs.Memory.{reportOf, noReport}
 use Rattle.types.specs.declared.State.{State}
 use Rattle.types.specs.declared.Answer.{Answer}
 use Rattle.types.specs.declared.Answer.the-variants.{Accepted, Refused}
 use Rattle.seam_rules.specs.declared.memory.Handler.{Handler}
 use Rattle.seam_rules.specs.declared.Done.{Done}
+use Rattle.seam_rules.specs.declared.DeliverDone.{DeliverDone}
 use Rattle.seam.specs.declared.light.Light.{Light}
 use Rattle.seam.specs.declared.step.Told.{Told}
 use Rattle.seam.specs.declared.deliver.Heard.{Heard}
@@ -59,11 +61,13 @@ lightAs h s e (Refused k) = keptLight h
 abbrev pub lightBy : Handler → State → Effect → Light
 lightBy h s e = lightAs h s e (answerBy e)
 
-abbrev pub heardBy : Handler → State → Effect → Heard
-heardBy h s e = record { code = answerNo (answerBy e); heavy = movesQueue e; light = lightBy h s e; effect = e }
+abbrev pub heardBy : Handler → State → Arrival → Heard
+heardBy h s a =
+    let e = a .effect in
+    record { code = answerNo (answerBy e); heavy = movesQueue e; light = lightBy h s e; report = record { length = a .length }; effect = e }
 
 abbrev pub heardHeld : Handler → List ℕ → Heard → Handler
 heardHeld h bytes d = pick (d .heavy) (queueHeld h bytes (d .light) (d .effect)) (lightHeld h (d .light))
 
-abbrev pub heardDone : Handler → List ℕ → Heard → Done
-heardDone h bytes d = record { code = d .code; held = heardHeld h bytes d }
+abbrev pub heardDone : Handler → List ℕ → Heard → DeliverDone
+heardDone h bytes d = record { code = d .code; held = heardHeld h bytes d; report = d .report }

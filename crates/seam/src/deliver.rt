@@ -11,21 +11,24 @@ use crate::light::light_kept;
 use crate::light::light_of;
 use crate::light::queued;
 use crate::taken;
+use seam_rules::memory::DeliverReport;
 use seam_rules::memory::Handler;
+use source_deliver::arrival_of;
+use source_deliver::effect::Arrival;
 use source_deliver::effect::Effect;
 use source_deliver::effect::answer_by;
 use source_deliver::effect::moved_by;
 use source_deliver::effect::moves_queue;
 use source_deliver::effect::queue_by;
-use source_deliver::effect_of;
 use types::Answer;
 use types::State;
 
-// `heavy`: the queue moves, as `effect` says; else `light` is all that does.
+// `heavy`: the queue moves, as `effect` says; else `light` is all that does. The report is written in any case.
 pub struct Heard {
     pub code: u32,
     pub heavy: bool,
     pub light: Light,
+    pub report: DeliverReport,
     pub effect: Effect,
 }
 
@@ -43,16 +46,19 @@ fn light_by(h: Handler, s: State, e: Effect) -> Light
     }
 }
 
-fn heard_by(h: Handler, s: State, e: Effect) -> Heard
-    ensures { λ r. ⌜ r ≡ heardBy h s e ⌝ }
+fn heard_by(h: Handler, s: State, a: Arrival) -> Heard
+    ensures { λ r. ⌜ r ≡ heardBy h s a ⌝ }
 {
+    let e = a.effect;
     let code = code_of(answer_by(e));
     let heavy = moves_queue(e);
     let light = light_by(h, s, e);
+    let length = a.length as u64;
     Heard {
         code: code,
         heavy: heavy,
         light: light,
+        report: DeliverReport { length: length },
         effect: e,
     }
 }
@@ -61,8 +67,8 @@ pub fn deliver_heard(h: Handler, bytes: &[u8]) -> Heard
     ensures { λ r. ⌜ heardDone h (now (bytes .entry)) r ≡ deliverDone h (now (bytes .entry)) ⌝ }
 {
     let s = taken::state_of(h);
-    let e = effect_of(s, bytes);
-    heard_by(h, s, e)
+    let a = arrival_of(s, bytes);
+    heard_by(h, s, a)
 }
 
 pub fn queue_held(h: Handler, bytes: &[u8], d: Heard) -> Handler

@@ -24,6 +24,7 @@ use crate::light::light_held;
 use crate::step::bulk_held;
 use crate::step::step_told;
 use seam_rules::memory::BurstReport;
+use seam_rules::memory::DeliverReport;
 use seam_rules::memory::Handler;
 
 // A handler whose first put takes this number of `width` bytes; the configuration stays. Returns 0.
@@ -66,10 +67,17 @@ pub extern "C" fn tsendrivaty_put(
     d.code
 }
 
-// Takes a PDU from the link. Returns 0 or the refusal's number.
+// Takes a PDU from the link, with or without fill behind it. `report` says how many of the bytes are the PDU's, on a refusal too, and 0 if the delivery is Malformed. Returns 0 or the
+// refusal's number.
 #[no_mangle]
-pub extern "C" fn tsendrivaty_deliver(state: &mut Handler, bytes: &[u8]) -> u32
-    ensures { λ r. ⌜ (now (state .exit) ≡ deliverDone (now (state .entry)) (now (bytes .entry)) .held) × (r ≡ deliverDone (now (state .entry)) (now (bytes .entry)) .code) ⌝ }
+pub extern "C" fn tsendrivaty_deliver(
+    state: &mut Handler,
+    bytes: &[u8],
+    report: &mut DeliverReport,
+) -> u32
+    ensures { λ r. ⌜ (now (state .exit) ≡ deliverDone (now (state .entry)) (now (bytes .entry)) .held)
+        × (now (report .exit) ≡ deliverDone (now (state .entry)) (now (bytes .entry)) .report)
+        × (r ≡ deliverDone (now (state .entry)) (now (bytes .entry)) .code) ⌝ }
 {
     let d = deliver_heard(*state, bytes);
     if d.heavy {
@@ -77,6 +85,7 @@ pub extern "C" fn tsendrivaty_deliver(state: &mut Handler, bytes: &[u8]) -> u32
     } else {
         *state = light_held(*state, d.light);
     }
+    *report = d.report;
     d.code
 }
 
