@@ -20,7 +20,7 @@ use Rattle.rules_pdu.proofs.ExactFrame.{tests, empty}
 use Rattle.rules_pdu.proofs.ExactSaid.{byte-small}
 use Rattle.rules.specs.Refusals.{answerNo}
 use Rattle.rules.specs.Deliver.{saidIn, isMalformed, cantProcess, meaningOf, requestsIn, asked, sameTransaction, unexpected, deliverAnswer, deliverState, deliverLength, deliverSpec}
-use Rattle.rules.specs.Runs.{requests, requestsOfBody}
+use Rattle.rules.specs.Runs.{requests}
 use Rattle.rules.specs.Fill.{ownLength, LengthExactly, LengthsExactly, OnePdu, FillUnread, NextPdu}
 use Rattle.types.specs.declared.Frame.{Frame}
 use Rattle.types.specs.declared.Body.{Body}
@@ -109,11 +109,6 @@ module _ (s : List ℕ) (n : ℕ) (f : Frame) (b : List ℕ) (l : f .start + len
   asked-cut (Means AckOfEof) x = refl
   asked-cut (Means (Nak k)) x = requests-cut k (f .head .large) s n (f .start + 1 + F (f .head .large) + F (f .head .large)) (omega (arith, x, l))
   asked-cut (Means (KeepAlive p)) x = refl
-
-  of-body-cut : (v : Body) → Fits (f .head .large) b v → requestsOfBody (take n s) f v ≡ requestsOfBody s f v
-  of-body-cut Malformed x = refl
-  of-body-cut CantProcess x = refl
-  of-body-cut (Means m) x = asked-cut (Means m) x
 
 -- ---- bytes cut where the PDU ends
 
@@ -214,9 +209,6 @@ module _ (s : State) (bytes : List ℕ) where
 pub length-exactly : LengthsExactly
 length-exactly s bytes = go (isMalformed (saidIn bytes)) refl
   where
-    n : ℕ
-    n = deliverSpec s bytes .length
-
     go : (b : Bool) → isMalformed (saidIn bytes) ≡ b → LengthExactly s bytes
     go true e =
         let z : deliverSpec s bytes .length ≡ 0 = reported s bytes ∙ ap (λ (b : Bool). pick b 0 (endIn bytes)) e in
