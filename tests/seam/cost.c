@@ -52,10 +52,11 @@ static void sixteen(void) {
 
 static void directive(const uint8_t *body, size_t n) {
     static uint8_t pdu[1024];
+    static struct tsendrivaty_deliver_report report;
     const uint8_t head[] = {0x28, (uint8_t)(n >> 8), (uint8_t)n, 0, 1, 7, 2};
     memcpy(pdu, head, sizeof head);
     memcpy(pdu + sizeof head, body, n);
-    answer = tsendrivaty_deliver(&h, pdu, sizeof head + n);
+    answer = tsendrivaty_deliver(&h, pdu, sizeof head + n, &report);
 }
 
 /* `count` requests of `length` bytes each, one byte further on each. */
