@@ -80,7 +80,7 @@ uint32_t tsendrivaty_deliver(H, SLICE, struct tsendrivaty_deliver_report *report
     if (IS(38) && own) report->length++;
     if (IS(39) && own) report->length = n;
     if (IS(40) && own && p[0] & 2) report->length -= 2;
-    if (IS(41) && r) report->length = 0;
+    if (IS(41) && r) *report = before;
     if (IS(42) && !own) report->length = by_the_header(p, n);
     if (IS(43)) report->length = own % 65536;
     if (IS(44) && own && own < n) *h = held, report->length = 0, r = TSENDRIVATY_MALFORMED;

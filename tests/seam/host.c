@@ -189,15 +189,15 @@ static void deliver(const uint8_t *bytes, size_t n) {
 
 /* A received frame: PDU after PDU, up to the first that is Malformed, and how much is left there. */
 static void deliver_frame(const uint8_t *bytes, size_t n) {
-    uint32_t r;
-    while ((r = delivered(bytes, n)) != TSENDRIVATY_MALFORMED) {
+    uint32_t r = delivered(bytes, n);
+    while (m.d.length && m.d.length <= n) {
         told(r);
-        if (m.d.length > n) break;
         bytes += m.d.length;
         n -= m.d.length;
+        r = delivered(bytes, n);
     }
     printf("rest %lu", (unsigned long)n);
-    ended(m.d.length == 0 && kept(1, DELIVERY, 0));
+    ended(r == TSENDRIVATY_MALFORMED && m.d.length == 0 && kept(1, DELIVERY, 0));
 }
 
 /* A PDU's bytes; of a long one the first sixteen, its length, and a sum over all (FNV-1a). */
