@@ -90,7 +90,7 @@ pub fn put_bytes(out: &mut [u8], at: usize, s: &[u8]) -> usize
 }
 
 // The number in a run of at most eight bytes.
-fn num(s: &[u8]) -> u64
+pub fn num(s: &[u8]) -> u64
     requires { ⌜ length (now s) ≤ 8 ⌝ }
     ensures { λ r. ⌜ (r ≡ numOf (now (s .entry))) × (r < 2 ^ (8 * length (now (s .entry)))) ⌝ }
 {

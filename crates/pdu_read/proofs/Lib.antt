@@ -1,3 +1,4 @@
+pub mod Framed
 pub mod Fields
 pub mod Tlvs
 pub mod Held

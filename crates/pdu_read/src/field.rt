@@ -1,7 +1,9 @@
 // What all readers take: a byte, a part or a number that may lie past the end; and the width of a size, which the writers take too.
+use basis::fields::num;
 use basis::fields::num_at;
 ghost use mathlib.Core.Path.{_≡_};
-ghost use Prim.Native.Nat.{_-_, _*_, _<_, _≤_, _^_};
+ghost use Prim.Native.Nat.{_+_, _-_, _*_, _<_, _≤_, _^_};
+ghost use lib.ListN.{length};
 ghost use Rattle.basis.specs.Bytes.{byte, part, numAt};
 ghost use Rattle.rules_pdu.specs.Numbers.{F};
 
@@ -36,6 +38,15 @@ pub fn num_of(s: &[u8], at: usize, w: usize) -> u64
     ensures { λ r. ⌜ (r ≡ numAt (now (s .entry)) at w) × (r < 2 ^ (8 * w)) ⌝ }
 {
     num_at(s, at, w)
+}
+
+// .. that are there
+pub(crate) fn num_in(s: &[u8], at: usize, w: usize) -> u64
+    requires { ⌜ (w ≤ 8) × (at + w ≤ length (now s)) ⌝ }
+    ensures { λ r. ⌜ r ≡ numAt (now (s .entry)) at w ⌝ }
+{
+    let e = at + w;
+    num(&s[at..e])
 }
 
 // "F = 4 (Normal) or 8 (Large)"

@@ -4,6 +4,7 @@
 // sequence number, destination id. With the CRC flag a CRC-16 closes the data field.
 
 use crate::field::byte_at;
+use crate::field::num_in;
 use crate::field::num_of;
 use crate::field::part_of;
 use checksum::crc16;
@@ -14,8 +15,9 @@ use types::Head;
 use types::TransactionSeqNum;
 ghost use mathlib.Core.Path.{_≡_};
 ghost use Prim.Native.Nat.{_<_, _≤_, _^_};
+ghost use lib.ListN.{length};
 ghost use Rattle.rules_pdu.specs.Numbers.{goodWidth, C};
-ghost use Rattle.rules_pdu.specs.Reading.{bitIn, versionIn, crcIn, lengthIn, idWidthIn, seqWidthIn, headIn, hIn, endIn, bodyEnd, crcAgrees, crcGood, wellFramed, frameIn, framedIn};
+ghost use Rattle.rules_pdu.specs.Reading.{bitIn, versionIn, crcIn, lengthIn, idWidthIn, seqWidthIn, headIn, hIn, endIn, crcAgrees, crcGood, wellFramed, frameIn, framedIn};
 
 // ---- byte 0
 
@@ -89,7 +91,9 @@ fn good_seq_width(s: &[u8]) -> bool
 
 // ---- what the header says
 
+// Of a header that is there.
 fn head_in(s: &[u8]) -> Head
+    requires { ⌜ hIn (now s) ≤ length (now s) ⌝ }
     ensures { λ r. ⌜ r ≡ headIn (now (s .entry)) ⌝ }
 {
     let b0 = byte_at(s, 0);
@@ -98,9 +102,9 @@ fn head_in(s: &[u8]) -> Head
     let large = bit(b0, 0);
     let i = id_width(s);
     let n = seq_width(s);
-    let source = num_of(s, 4, i as usize);
-    let number = num_of(s, 4 + i as usize, n as usize);
-    let destination = num_of(s, 4 + i as usize + n as usize, i as usize);
+    let source = num_in(s, 4, i as usize);
+    let number = num_in(s, 4 + i as usize, n as usize);
+    let destination = num_in(s, 4 + i as usize + n as usize, i as usize);
     Head {
         unacknowledged,
         crc,
@@ -122,7 +126,7 @@ fn head_length(s: &[u8]) -> usize
     4 + 2 * i + n
 }
 
-// Where the PDU ends, by its own header.
+// Where the PDU ends, by its own header. What stands behind is fill.
 fn pdu_end(s: &[u8]) -> usize
     ensures { λ r. ⌜ (r ≡ endIn (now (s .entry))) × (r < 65564) ⌝ }
 {
@@ -134,14 +138,6 @@ fn crc_length(s: &[u8]) -> usize
     ensures { λ r. ⌜ (r ≡ C (crcIn (now (s .entry)))) × (r ≤ 2) ⌝ }
 {
     if has_crc(s) { 2 } else { 0 }
-}
-
-// Where the body ends: its CRC is no part of it.
-fn body_end(s: &[u8]) -> usize
-    ensures { λ r. ⌜ r ≡ bodyEnd (now (s .entry)) ⌝ }
-{
-    let e = pdu_end(s);
-    e - crc_length(s)
 }
 
 fn crc_agrees(s: &[u8]) -> bool
@@ -180,13 +176,14 @@ fn well_framed(s: &[u8]) -> bool
     if !good_seq_width(s) {
         return false;
     }
-    if s.len() != pdu_end(s) {
+    if s.len() < pdu_end(s) {
         return false;
     }
     crc_good(s)
 }
 
 fn frame_in(s: &[u8]) -> Frame
+    requires { ⌜ hIn (now s) ≤ length (now s) ⌝ }
     ensures { λ r. ⌜ r ≡ frameIn (now (s .entry)) ⌝ }
 {
     let b0 = byte_at(s, 0);
@@ -194,13 +191,16 @@ fn frame_in(s: &[u8]) -> Frame
     let filedata = bit(b0, 4);
     let tosender = bit(b0, 3);
     let start = head_length(s);
-    let end = body_end(s);
+    let length = pdu_end(s);
+    // the body ends in front of its CRC
+    let end = length - crc_length(s);
     Frame {
         head,
         filedata,
         tosender,
         start,
         end,
+        length,
     }
 }
 

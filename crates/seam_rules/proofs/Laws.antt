@@ -154,7 +154,7 @@ memory-follows =
           (code-is h (r .state) noReport (r .answer), follows h (r .state) noReport (r .answer) (same .put (stateOf h) c q source destination size));
       deliver = λ h bytes.
           let r = deliverSpec (stateOf h) bytes in
-          (code-is h (r .state) noReport (r .answer), follows h (r .state) noReport (r .answer) (same .deliver (stateOf h) bytes));
+          (code-is h (r .state) noReport (r .answer), refl, follows h (r .state) noReport (r .answer) (same .deliver (stateOf h) bytes));
       step = λ h file expired out.
           let r = stepSpec (stateOf h) file (flagOf expired) (length out) in (
             code-is h (r .state) (reportOf r) (r .answer),

@@ -11,6 +11,7 @@ ghost use mathlib.Core.Path.{_≡_};
 ghost use Rattle.rules.specs.Calls.{PutMeets, DeliverMeets, StepMeets, BurstMeets, CancelMeets, ResetMeets, NewMeets};
 use types::Bursted;
 use types::Cancelled;
+use types::Delivered;
 use types::Done;
 use types::EntityId;
 use types::LocalEntityConfig;
@@ -40,8 +41,9 @@ pub fn put(
     source_put::put(s, c, q, source, destination, size)
 }
 
-// Takes a PDU from the link: refusals 20, 21, 23, 22, 24, 25, or what the table of steps says.
-pub fn deliver(s: State, bytes: &[u8]) -> Done
+// Takes a PDU from the link, with or without fill behind it: refusals 20, 21, 23, 22, 24, 25, or what the table of steps says; and how many of the bytes are the
+// PDU's, on a refusal too (0: Malformed).
+pub fn deliver(s: State, bytes: &[u8]) -> Delivered
     ensures { λ r. ⌜ DeliverMeets s (now (bytes .entry)) r ⌝ }
 {
     source_deliver::deliver(s, bytes)

@@ -12,7 +12,7 @@ use Rattle.rules_pdu.specs.Reading.{wellFramed, frameIn, framedIn, bodyIn, body
 use Rattle.rules.specs.Refusals.{refused, accepted, byAnswer}
 use Rattle.rules.specs.States.{stepNo, withQueue}
 use Rattle.rules.specs.Queues.{anyInvalid, owing, free, pushAll}
-use Rattle.rules.specs.Deliver.{saidIn, requestsIn, asked, verdictOf, isRefuse, unexpected, byVerdict, deliverAnswer, deliverState, deliverSpec}
+use Rattle.rules.specs.Deliver.{saidIn, requestsIn, asked, verdictOf, isRefuse, unexpected, byVerdict, deliverAnswer, deliverState, deliverLength, reporting, deliverSpec}
 use Rattle.types.specs.declared.SegmentRequest.{SegmentRequest}
 use Rattle.types.specs.declared.Framed.the-variants.{Malformed as NoFrame, Whole}
 use Rattle.types.specs.declared.Body.{Body}
@@ -27,7 +27,7 @@ use Rattle.types.specs.declared.Answer.{Answer}
 use Rattle.types.specs.declared.Answer.the-variants.{Accepted, Refused}
 use Rattle.rules.proofs.Table.{verdict-nak, verdict-ack, verdict-finished, verdict-keep}
 use Rattle.source_deliver.specs.Asked.{isOther, takesNak}
-use Rattle.source_deliver.specs.Ways.{nakDone, verdictDone, heardDone, bodyDone, frameDone}
+use Rattle.source_deliver.specs.Ways.{nakDone, verdictDone, heardDone, bodyDelivered, frameDelivered}
 
 module _ (s : State) where
   -- a refusal first, then the rest
@@ -97,17 +97,18 @@ module _ (s : State) where
       go false false false = nak-way rs
   verdict-way bytes (KeepAlive p) = rw (verdict-keep (s .step) p) (rw none-asked)
 
-  body-way : (bytes : List ℕ) (v : Body) → bodyDone s bytes (frameIn bytes) v ≡ byAnswer s (deliverState s bytes v) (deliverAnswer s bytes v)
-  unfolding deliverAnswer deliverState heardDone isOther frameIn
+  body-way : (bytes : List ℕ) (v : Body)
+      → bodyDelivered s bytes (frameIn bytes) v ≡ reporting (deliverLength bytes v) (byAnswer s (deliverState s bytes v) (deliverAnswer s bytes v))
+  unfolding deliverAnswer deliverState deliverLength heardDone isOther frameIn
   body-way bytes NoPdu = refl
   body-way bytes CantProcess = refl
   body-way bytes (Means m) = rw (verdict-way bytes m) (rw (by-line _ (isOther s (frameIn bytes)) OtherTransaction _))
 
-  pub in-order : (bytes : List ℕ) → frameDone s bytes (framedIn bytes) ≡ deliverSpec s bytes
+  pub in-order : (bytes : List ℕ) → frameDelivered s bytes (framedIn bytes) ≡ deliverSpec s bytes
   unfolding deliverSpec saidIn framedIn frameIn bodyIn
   in-order bytes = go (wellFramed bytes)
     where
       go : (b : Bool) → let v = pick b (bodyOf (frameIn bytes) (bodyIn bytes)) NoPdu in
-          frameDone s bytes (pick b (Whole (frameIn bytes)) NoFrame) ≡ byAnswer s (deliverState s bytes v) (deliverAnswer s bytes v)
+          frameDelivered s bytes (pick b (Whole (frameIn bytes)) NoFrame) ≡ reporting (deliverLength bytes v) (byAnswer s (deliverState s bytes v) (deliverAnswer s bytes v))
       go true = body-way bytes (bodyOf (frameIn bytes) (bodyIn bytes))
       go false = body-way bytes NoPdu

@@ -6,7 +6,7 @@ use Prim.Native.Nat.{ℕ}
 use Rattle.rules_pdu.specs.Reading.{requestsFrom}
 use Rattle.rules.specs.States.{toStep, withQueue, emptyQueue}
 use Rattle.rules.specs.Queues.{pushAll}
-use Rattle.rules.specs.Deliver.{finishedOf}
+use Rattle.rules.specs.Deliver.{finishedOf, reporting}
 use Rattle.types.specs.declared.State.{State}
 use Rattle.types.specs.declared.Queue.{Queue}
 use Rattle.types.specs.declared.TransactionStep.the-variants.{WaitingForFinished}
@@ -14,7 +14,10 @@ use Rattle.types.specs.declared.Meaning.{Meaning}
 use Rattle.types.specs.declared.Meaning.the-variants.{Finished, AckOfEof, Nak, KeepAlive}
 use Rattle.types.specs.declared.Answer.{Answer}
 use Rattle.types.specs.declared.Answer.the-variants.{Accepted, Refused}
+use Rattle.types.specs.declared.Refusal.the-variants.{Malformed}
 use Rattle.types.specs.declared.Done.{Done}
+use Rattle.types.specs.declared.Delivered.{Delivered}
+use Rattle.source_deliver.specs.declared.effect.Arrival.{Arrival}
 use Rattle.source_deliver.specs.declared.effect.Effect.{Effect}
 use Rattle.source_deliver.specs.declared.effect.Effect.the-variants.{Refuse, NoEffect, WaitForFinished, Close, Enqueue}
 
@@ -49,6 +52,13 @@ movesQueue (Enqueue large at n) = true
 
 abbrev pub doneBy : State → List ℕ → Effect → Done
 doneBy s bytes e = record { answer = answerBy e; state = withQueue (movedBy s e) (queueBy (s .queue) bytes e) }
+
+-- .. with how many of the bytes are the PDU's
+abbrev pub deliveredBy : State → List ℕ → Arrival → Delivered
+deliveredBy s bytes a = reporting (a .length) (doneBy s bytes (a .effect))
+
+abbrev pub noPdu : Arrival
+noPdu = record { effect = Refuse Malformed; length = 0 }
 
 -- what the table's "move" comes to: an ACK of EOF and a Finished PDU alone move anything
 abbrev pub moveOf : Meaning → Effect

@@ -10,7 +10,7 @@ use Rattle.rules_pdu.specs.Reading.{bodyOf}
 use Rattle.rules.specs.Refusals.{refused, accepted}
 use Rattle.rules.specs.States.{withQueue}
 use Rattle.rules.specs.Queues.{anyInvalid, owing, free, pushAll}
-use Rattle.rules.specs.Deliver.{asked, verdictOf, movedBy}
+use Rattle.rules.specs.Deliver.{asked, verdictOf, movedBy, reporting}
 use Rattle.types.specs.declared.SegmentRequest.{SegmentRequest}
 use Rattle.types.specs.declared.Frame.{Frame}
 use Rattle.types.specs.declared.Framed.{Framed}
@@ -23,6 +23,7 @@ use Rattle.types.specs.declared.Verdict.the-variants.{Enqueue, Move, Refuse, No
 use Rattle.types.specs.declared.State.{State}
 use Rattle.types.specs.declared.Refusal.the-variants.{Malformed, CantProcessPacketType, UnexpectedPdu, OtherTransaction, InvalidNakPdu, RetransmitFull}
 use Rattle.types.specs.declared.Done.{Done}
+use Rattle.types.specs.declared.Delivered.{Delivered}
 use Rattle.source_deliver.specs.Asked.{isOther, takesNak}
 
 unfoldable pub nakDone : State → List SegmentRequest → Done
@@ -41,11 +42,12 @@ verdictDone s bytes f m NoEffect = accepted s
 unfoldable pub heardDone : State → List ℕ → Frame → Meaning → Done
 heardDone s bytes f m = pick (isOther s f) (refused s OtherTransaction) (verdictDone s bytes f m (verdictOf (s .step) m))
 
-abbrev pub bodyDone : State → List ℕ → Frame → Body → Done
-bodyDone s bytes f NoPdu = refused s Malformed
-bodyDone s bytes f CantProcess = refused s CantProcessPacketType
-bodyDone s bytes f (Means m) = heardDone s bytes f m
+-- from here on with how many of the bytes are the PDU's
+abbrev pub bodyDelivered : State → List ℕ → Frame → Body → Delivered
+bodyDelivered s bytes f NoPdu = reporting 0 (refused s Malformed)
+bodyDelivered s bytes f CantProcess = reporting (f .length) (refused s CantProcessPacketType)
+bodyDelivered s bytes f (Means m) = reporting (f .length) (heardDone s bytes f m)
 
-abbrev pub frameDone : State → List ℕ → Framed → Done
-frameDone s bytes NoFrame = refused s Malformed
-frameDone s bytes (Whole f) = bodyDone s bytes f (bodyOf f (part bytes (f .start) (f .end - f .start)))
+abbrev pub frameDelivered : State → List ℕ → Framed → Delivered
+frameDelivered s bytes NoFrame = reporting 0 (refused s Malformed)
+frameDelivered s bytes (Whole f) = bodyDelivered s bytes f (bodyOf f (part bytes (f .start) (f .end - f .start)))

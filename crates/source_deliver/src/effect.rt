@@ -4,7 +4,7 @@
 use source_queue::nak::push_all;
 use source_state::to_step;
 use types::Answer;
-use types::Done;
+use types::Delivered;
 use types::FinishedParams;
 use types::Queue;
 use types::Refusal;
@@ -16,7 +16,7 @@ ghost use mathlib.Core.Bool.{Bool};
 ghost use Rattle.rules.specs.States.{toStep};
 ghost use Rattle.rules.specs.Deliver.{finishedOf};
 ghost use Rattle.types.specs.declared.TransactionStep.the-variants.{WaitingForFinished};
-ghost use Rattle.source_deliver.specs.Effects.{answerBy, movedBy as movedIs, queueBy, doneBy, movesQueue};
+ghost use Rattle.source_deliver.specs.Effects.{answerBy, movedBy as movedIs, queueBy, deliveredBy, movesQueue};
 
 pub enum Effect {
     Refuse(Refusal),
@@ -27,6 +27,12 @@ pub enum Effect {
     Close(FinishedParams),
     // a NAK: its n requests, from a place of the delivered bytes on
     Enqueue { large: bool, at: usize, n: usize },
+}
+
+// What a delivery comes to, and how many of its bytes are the PDU's; of a Malformed one, none.
+pub struct Arrival {
+    pub effect: Effect,
+    pub length: usize,
 }
 
 pub fn answer_by(e: Effect) -> Answer
@@ -104,15 +110,17 @@ pub fn moves_queue(e: Effect) -> bool
     }
 }
 
-pub(crate) fn done_by(s: State, bytes: &[u8], e: Effect) -> Done
-    ensures { λ r. ⌜ r ≡ doneBy s (now (bytes .entry)) e ⌝ }
+pub(crate) fn delivered_by(s: State, bytes: &[u8], a: Arrival) -> Delivered
+    ensures { λ r. ⌜ r ≡ deliveredBy s (now (bytes .entry)) a ⌝ }
 {
+    let e = a.effect;
     let answer = answer_by(e);
     let queue = queue_by(s.queue, bytes, e);
     let mut t = moved_by(s, e);
     t.queue = queue;
-    Done {
+    Delivered {
         answer: answer,
+        length: a.length,
         state: t,
     }
 }

@@ -1,18 +1,19 @@
 // A delivery: what the bytes say, then what the table of steps answers. Any state and any bytes are taken. The refusals are tried in
-// the order 20, 21, 23, 22, 24, 25, and a refused delivery changes nothing.
+// the order 20, 21, 23, 22, 24, 25, and a refused delivery changes nothing; refused or not, it is told how many of the bytes are the PDU's.
 // After cfdp-rs 0.3.0, src/source.rs (Apache-2.0); changed, see NOTICE.
 pub mod effect;
 mod nak;
 mod table;
 
+use crate::effect::Arrival;
 use crate::effect::Effect;
-use crate::effect::done_by;
+use crate::effect::delivered_by;
 use crate::nak::handle_nak_pdu;
 use crate::table::verdict_of;
 use pdu_read::directive::read_body;
 use pdu_read::header::read_header;
 use types::Body;
-use types::Done;
+use types::Delivered;
 use types::Frame;
 use types::Framed;
 use types::Head;
@@ -24,8 +25,8 @@ ghost use mathlib.Core.Path.{_≡_};
 ghost use Rattle.rules.specs.Deliver.{sameTransaction, deliverSpec};
 ghost use Rattle.rules.specs.Calls.{DeliverMeets};
 ghost use Rattle.source_deliver.specs.Asked.{askedCount, isOther};
-ghost use Rattle.source_deliver.specs.Ways.{verdictDone, heardDone, bodyDone};
-ghost use Rattle.source_deliver.specs.Effects.{doneBy, moveOf};
+ghost use Rattle.source_deliver.specs.Ways.{verdictDone, heardDone, bodyDelivered};
+ghost use Rattle.source_deliver.specs.Effects.{noPdu, doneBy, deliveredBy, moveOf};
 
 // ---- the table at work
 
@@ -107,23 +108,42 @@ fn heard(s: State, bytes: &[u8], f: Frame, m: Meaning) -> Effect
 
 // ---- what the bytes say
 
-fn by_body(s: State, bytes: &[u8], f: Frame, b: Body) -> Effect
-    ensures { λ r. ⌜ doneBy s (now (bytes .entry)) r ≡ bodyDone s (now (bytes .entry)) f b ⌝ }
+// Of what is no PDU no byte is one's.
+fn malformed() -> Arrival
+    ensures { λ r. ⌜ r ≡ noPdu ⌝ }
+{
+    Arrival {
+        effect: Effect::Refuse(Refusal::Malformed),
+        length: 0,
+    }
+}
+
+fn by_body(s: State, bytes: &[u8], f: Frame, b: Body) -> Arrival
+    ensures { λ r. ⌜ deliveredBy s (now (bytes .entry)) r ≡ bodyDelivered s (now (bytes .entry)) f b ⌝ }
 {
     match b {
-        Body::Malformed => Effect::Refuse(Refusal::Malformed),
-        Body::CantProcess => Effect::Refuse(Refusal::CantProcessPacketType),
-        Body::Means(m) => heard(s, bytes, f, m),
+        Body::Malformed => malformed(),
+        Body::CantProcess => Arrival {
+            effect: Effect::Refuse(Refusal::CantProcessPacketType),
+            length: f.length,
+        },
+        Body::Means(m) => {
+            let e = heard(s, bytes, f, m);
+            Arrival {
+                effect: e,
+                length: f.length,
+            }
+        }
     }
 }
 
 // What a delivery comes to.
-pub fn effect_of(s: State, bytes: &[u8]) -> Effect
-    ensures { λ r. ⌜ doneBy s (now (bytes .entry)) r ≡ deliverSpec s (now (bytes .entry)) ⌝ }
+pub fn arrival_of(s: State, bytes: &[u8]) -> Arrival
+    ensures { λ r. ⌜ deliveredBy s (now (bytes .entry)) r ≡ deliverSpec s (now (bytes .entry)) ⌝ }
 {
     let framed = read_header(bytes);
     match framed {
-        Framed::Malformed => Effect::Refuse(Refusal::Malformed),
+        Framed::Malformed => malformed(),
         Framed::Whole(f) => {
             let b = read_body(bytes, f);
             by_body(s, bytes, f, b)
@@ -131,9 +151,9 @@ pub fn effect_of(s: State, bytes: &[u8]) -> Effect
     }
 }
 
-pub fn deliver(s: State, bytes: &[u8]) -> Done
+pub fn deliver(s: State, bytes: &[u8]) -> Delivered
     ensures { λ r. ⌜ DeliverMeets s (now (bytes .entry)) r ⌝ }
 {
-    let e = effect_of(s, bytes);
-    done_by(s, bytes, e)
+    let a = arrival_of(s, bytes);
+    delivered_by(s, bytes, a)
 }

@@ -5,14 +5,14 @@ use borrow.Author.Needs.{needs}
 use Rattle.source_deliver.proofs.deliver.Statement.{statement}
 use Rattle.source_deliver.proofs.deliver.Tie as tie
 
-effect-of-requires : tie.Need-effect-of-requires
-effect-of-requires c κs = search needs
+arrival-of-requires : tie.Need-arrival-of-requires
+arrival-of-requires c κs = search needs
 
-done-by-requires : tie.Need-done-by-requires
-done-by-requires c κs = search needs
+delivered-by-requires : tie.Need-delivered-by-requires
+delivered-by-requires c κs = search needs
 
 returns : tie.Need-returns
-returns c = c .done-by .ensures ∙ c .before .effect-of .ensures
+returns c = c .delivered-by .ensures ∙ c .before .arrival-of .ensures
 
 pub deliver-spec : {M : Type 1} → statement M
-deliver-spec = tie.close (tie.spec effect-of-requires done-by-requires returns)
+deliver-spec = tie.close (tie.spec arrival-of-requires delivered-by-requires returns)

@@ -20,8 +20,14 @@ bit-requires-2 c κs = search needs
 head-length-requires : tie.Need-head-length-requires
 head-length-requires c κs = search needs
 
-body-end-requires : tie.Need-body-end-requires
-body-end-requires c κs = search needs
+pdu-end-requires : tie.Need-pdu-end-requires
+pdu-end-requires c κs = search needs
+
+crc-length-requires : tie.Need-crc-length-requires
+crc-length-requires c κs = search needs
+
+sub-end : tie.Need-sub-end
+sub-end c = search needs
 
 returns : tie.Need-returns
 unfolding frameIn fileDataIn toSenderIn
@@ -36,5 +42,7 @@ frame-in-spec =
     bit-requires
     bit-requires-2
     head-length-requires
-    body-end-requires
+    pdu-end-requires
+    crc-length-requires
+    sub-end
     returns)

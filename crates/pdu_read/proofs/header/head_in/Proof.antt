@@ -23,41 +23,41 @@ id-width-requires c κs = search needs
 seq-width-requires : tie.Need-seq-width-requires
 seq-width-requires c κs = search needs
 
-cast-num-of : tie.Need-cast-num-of
-cast-num-of c = search needs
+cast-num-in : tie.Need-cast-num-in
+cast-num-in c = search needs
 
-num-of-requires : tie.Need-num-of-requires
-num-of-requires c κs = search needs
+num-in-requires : tie.Need-num-in-requires
+num-in-requires c κs = search needs
 
-cast-num-of-2 : tie.Need-cast-num-of-2
-cast-num-of-2 c = search needs
+cast-num-in-2 : tie.Need-cast-num-in-2
+cast-num-in-2 c = search needs
 
-add-num-of : tie.Need-add-num-of
-add-num-of c = search needs
+add-num-in : tie.Need-add-num-in
+add-num-in c = search needs
 
-cast-num-of-3 : tie.Need-cast-num-of-3
-cast-num-of-3 c = search needs
+cast-num-in-3 : tie.Need-cast-num-in-3
+cast-num-in-3 c = search needs
 
-num-of-requires-2 : tie.Need-num-of-requires-2
-num-of-requires-2 c κs = search needs
+num-in-requires-2 : tie.Need-num-in-requires-2
+num-in-requires-2 c κs = search needs
 
-cast-num-of-4 : tie.Need-cast-num-of-4
-cast-num-of-4 c = search needs
+cast-num-in-4 : tie.Need-cast-num-in-4
+cast-num-in-4 c = search needs
 
-add-num-of-2 : tie.Need-add-num-of-2
-add-num-of-2 c = search needs
+add-num-in-2 : tie.Need-add-num-in-2
+add-num-in-2 c = search needs
 
-cast-num-of-5 : tie.Need-cast-num-of-5
-cast-num-of-5 c = search needs
+cast-num-in-5 : tie.Need-cast-num-in-5
+cast-num-in-5 c = search needs
 
-add-num-of-3 : tie.Need-add-num-of-3
-add-num-of-3 c = search needs
+add-num-in-3 : tie.Need-add-num-in-3
+add-num-in-3 c = search needs
 
-cast-num-of-6 : tie.Need-cast-num-of-6
-cast-num-of-6 c = search needs
+cast-num-in-6 : tie.Need-cast-num-in-6
+cast-num-in-6 c = search needs
 
-num-of-requires-3 : tie.Need-num-of-requires-3
-num-of-requires-3 c κs = search needs
+num-in-requires-3 : tie.Need-num-in-requires-3
+num-in-requires-3 c κs = search needs
 
 returns : tie.Need-returns
 unfolding headIn unacknowledgedIn crcIn largeIn
@@ -73,16 +73,16 @@ head-in-spec =
     bit-requires-3
     id-width-requires
     seq-width-requires
-    cast-num-of
-    num-of-requires
-    cast-num-of-2
-    add-num-of
-    cast-num-of-3
-    num-of-requires-2
-    cast-num-of-4
-    add-num-of-2
-    cast-num-of-5
-    add-num-of-3
-    cast-num-of-6
-    num-of-requires-3
+    cast-num-in
+    num-in-requires
+    cast-num-in-2
+    add-num-in
+    cast-num-in-3
+    num-in-requires-2
+    cast-num-in-4
+    add-num-in-2
+    cast-num-in-5
+    add-num-in-3
+    cast-num-in-6
+    num-in-requires-3
     returns)

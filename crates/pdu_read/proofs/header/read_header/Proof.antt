@@ -2,6 +2,7 @@
 -- Assumes nothing.
 use Rattle.basis.proofs.Pick.{picks, told}
 use Rattle.rules_pdu.specs.Reading.{framedIn}
+use Rattle.pdu_read.proofs.Framed.{head-there}
 use borrow.Author.Needs.{needs}
 use Rattle.pdu_read.proofs.header.read_header.Statement.{statement}
 use Rattle.pdu_read.proofs.header.read_header.Tie as tie
@@ -10,7 +11,7 @@ well-framed-requires : tie.Need-well-framed-requires
 well-framed-requires c κs = search needs
 
 frame-in-requires : tie.Need-frame-in-requires
-frame-in-requires c κs = search needs
+frame-in-requires c κs = head-there _ (search told)
 
 returns : tie.Need-returns
 unfolding framedIn
