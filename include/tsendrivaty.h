@@ -9,8 +9,8 @@
  *    pattern is a state, and every call returns on it.
  *  - A slice is a pointer and a length. The pointer is not null, also where the length is 0, and that many bytes can be read (in `out`: written).
  *  - Slices don't overlap the handler, and `out` overlaps no other slice.
- *  - The report that you lend to a burst is sizeof(struct tsendrivaty_burst_report) bytes, aligned to 8, whatever is in them; it overlaps neither the
- *    handler nor a slice.
+ *  - The report that you lend to a delivery is sizeof(struct tsendrivaty_deliver_report) bytes, that of a burst sizeof(struct tsendrivaty_burst_report),
+ *    each aligned to 8, whatever is in them; it overlaps neither the handler nor a slice.
  *  - One call at a time on one handler. Different handlers know nothing of each other.
  *  - From an accepted put until the step is Idle again, lend the same file, unchanged, at every step and burst. Only its length is tested (30). Of other bytes
  *    of the same length each data PDU carries those lent at its own step, and the EOF the checksum of the first-pass bytes that left: a peer that
@@ -50,7 +50,8 @@ extern "C" {
 #define TSENDRIVATY_ASSERT(holds, says) _Static_assert(holds, says)
 #endif
 
-/* ---- Answers: 0, or the number of document 01's refusal. A refused call changes no number of the handler or of a report, and no byte of `out`. */
+/* ---- Answers: 0, or the number of document 01's refusal. A refused call changes no number of the handler or of a burst's report, and no byte of `out`;
+ * the one thing that a refused call writes is the report of a delivery. */
 
 enum tsendrivaty_answer {
     TSENDRIVATY_ACCEPTED = 0,
@@ -210,6 +211,12 @@ struct tsendrivaty_report {
     uint8_t timer;          /* 0 none; start now, running or not: 1 the ack timer, 2 the check timer */
 };
 
+/* What a delivery said, a refused one too: every delivery writes it. YOU lend it, and no other call knows it. */
+
+struct tsendrivaty_deliver_report {
+    uint64_t length; /* so many of the delivered bytes are the PDU's, its CRC with them, up to 65,563; 0: it was Malformed (20) */
+};
+
 /* What an accepted burst said. YOU lend it, the burst fills it, no other call knows it, and a refused burst leaves it. */
 
 struct tsendrivaty_burst_report {
@@ -243,8 +250,11 @@ uint32_t tsendrivaty_put(struct tsendrivaty_handler *handler, uint8_t width, uin
                          const uint8_t *source_name, size_t source_name_length, const uint8_t *destination_name, size_t destination_name_length,
                          uint64_t size);
 
-/* Takes one whole PDU from the link, nothing in front of it or behind. Returns 0, or 20 to 25. Emits nothing: what is owed leaves with later steps. */
-uint32_t tsendrivaty_deliver(struct tsendrivaty_handler *handler, const uint8_t *bytes, size_t length);
+/* Takes the PDU that stands in front of `bytes`, nothing before it. What stands behind it is not looked at: idle fill, or the next PDU of the frame. Returns
+ * 0, or 20 to 25; `report` says how many bytes are the PDU's, refused or not, so while that is not 0 deliver again from bytes + report->length on, up to
+ * the end of the frame. After 20 it is 0, and nothing says where a next PDU would start: what is left is fill, or a damaged PDU.
+ * Emits nothing: what is owed leaves with later steps. */
+uint32_t tsendrivaty_deliver(struct tsendrivaty_handler *handler, const uint8_t *bytes, size_t length, struct tsendrivaty_deliver_report *report);
 
 /* Makes one step over the lent file, emits at most one PDU in front of `out`, and fills the report; bytes of `out` behind the PDU stay. `expired` is a
  * flag: the timer has run out. Returns 0, 30 or 31; those two undo the step wholly: make it again with the right file or a larger `out`. */
@@ -350,6 +360,8 @@ TSENDRIVATY_AT(report, condition, 52, 1);
 TSENDRIVATY_AT(report, finished, 53, 1);
 TSENDRIVATY_AT(report, values, 54, 3);
 TSENDRIVATY_AT(report, timer, 57, 1);
+TSENDRIVATY_SIZE(deliver_report, 8);
+TSENDRIVATY_AT(deliver_report, length, 0, 8);
 TSENDRIVATY_SIZE(burst_report, 1032);
 TSENDRIVATY_AT(burst_report, count, 0, 8);
 TSENDRIVATY_AT(burst_report, steps, 8, 1024);
@@ -365,9 +377,11 @@ TSENDRIVATY_AT(handler, marks, 2040, 8);
 TSENDRIVATY_AT(handler, report, 2048, 64);
 #ifdef __cplusplus
 TSENDRIVATY_ASSERT(alignof(struct tsendrivaty_handler) == 8, "the handler is not aligned to 8");
+TSENDRIVATY_ASSERT(alignof(struct tsendrivaty_deliver_report) == 8, "the report of a delivery is not aligned to 8");
 TSENDRIVATY_ASSERT(alignof(struct tsendrivaty_burst_report) == 8, "the report of a burst is not aligned to 8");
 #else
 TSENDRIVATY_ASSERT(_Alignof(struct tsendrivaty_handler) == 8, "the handler is not aligned to 8");
+TSENDRIVATY_ASSERT(_Alignof(struct tsendrivaty_deliver_report) == 8, "the report of a delivery is not aligned to 8");
 TSENDRIVATY_ASSERT(_Alignof(struct tsendrivaty_burst_report) == 8, "the report of a burst is not aligned to 8");
 #endif
 

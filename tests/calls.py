@@ -83,6 +83,8 @@ def answers(run):
             given.append(call)
         elif kind == 'look':
             given.append(call + model.look())
+        elif kind == 'deliver':
+            given.append(('deliver',) + model.deliver(*args))
         else:
             given.append((kind, getattr(model, kind)(*args)))
     return given + [('end', 0)]
@@ -91,8 +93,10 @@ def answers(run):
 def answer_bytes(given):
     out = b''
     for a in given:
-        if a[0] in ('put', 'deliver'):
-            out += bytes([1 + (a[0] == 'deliver'), a[1]])
+        if a[0] == 'put':
+            out += bytes([1, a[1]])
+        elif a[0] == 'deliver':
+            out += bytes([2, a[1]]) + be(4, a[2])
         elif a[0] == 'step':
             out += bytes([3, a[1]]) + made_bytes(*a[2:])
         elif a[0] == 'burst':
@@ -145,6 +149,8 @@ def answer_line(a):
         return 'step %d %s' % (a[1], made_line(*a[2:]))
     if a[0] == 'burst':
         return '\n    '.join(['burst %d %d' % (a[1], len(a[2]))] + [made_line(*made) for made in a[2]])
+    if a[0] == 'deliver':
+        return 'deliver %d %d' % a[1:]
     if a[0] == 'cancel':
         return 'cancel ' + ('yes' if a[1] else 'no')
     if a[0] == 'look':

@@ -73,7 +73,7 @@ def seam():
     shown('step, data PDU of 4,096 bytes, CRC', comma(data_crc))
     for name, case in (('step, data PDU with 100 bytes of file', 'data_100'), ('step, data PDU with 1 byte of file', 'data_1'), ('step, repair of 4,096 bytes', 'repair'),
                        ('step, metadata', 'metadata'), ('step, refused (30)', 'refused'), ('deliver, NAK of 64 requests', 'nak_64'),
-                       ('deliver, NAK of 1 request', 'nak_1'), ('deliver, ACK of EOF', 'ack'), ('deliver, Finished', 'finished'), ('deliver, Keep Alive', 'keep_alive'),
+                       ('deliver, NAK of 1 request', 'nak_1'), ('deliver, ACK of EOF', 'ack'), ('deliver, ACK of EOF, 300 bytes of fill behind it', 'ack_fill'), ('deliver, Finished', 'finished'), ('deliver, Keep Alive', 'keep_alive'),
                        ('deliver, refused (22)', 'ack_refused'), ('put, names of one byte', 'put'), ('cancel', 'cancel'), ('reset', 'reset')):
         shown(name, comma(cost(case)))
     for name, case in (('16 data PDUs with 100 bytes of file', '_100'), ('16 data PDUs of 4,096 bytes, no CRC', ''), ('16 data PDUs of 4,096 bytes, CRC', '_crc'),

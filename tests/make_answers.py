@@ -9,6 +9,7 @@ The words, in the order in which the answers are to be delivered:
     nak=0-0,8-32    a NAK with these requests; 0-0 asks for the metadata
     ack             ACK of EOF, no error
     finished        Finished, no error, data complete, file retained
+    fill=5          so many bytes 0x55 behind the answer before this word, in the same frame
 
 With no word at all it writes the demo: crates/send/data/notes.answers, and crates/send/stdout, the pass that document 01 asks for, PDU by PDU.
 Everything is computed from document 01's layouts by Python alone; no code is shared with the crates.
@@ -56,6 +57,10 @@ def finished(t):
     return pdu(t, bytes([5, 0x02]), tosender=1)
 
 
+def fill(word):
+    return b'\x55' * int(word.partition('=')[2])
+
+
 def pairs(text):
     return [tuple(int(x) for x in p.split('-')) for p in text.split(',')]
 
@@ -85,8 +90,13 @@ def transaction():
 
 
 def answers(out, words):
-    t = transaction()
-    found = [b for b in (answer(t, w) for w in words) if b is not None]
+    t, found = transaction(), []
+    for word in words:
+        if word.startswith('fill=') and found:
+            found[-1] += fill(word)
+        else:
+            b = answer(t, word)
+            found += [] if b is None else [b]
     write(out, b''.join(u(2, len(b)) + b for b in found))
 
 
@@ -135,15 +145,15 @@ def demo():
         file = f.read()
     size = len(file)
     first, second = '0-0,8-32,40-45,%d-%d' % (size - 2, size), '16-24'
-    # the second answer comes too early and is refused
-    answers(os.path.join(SEND, 'data', 'notes.answers'), ['nak=' + first, 'finished', 'ack', 'nak=' + second, 'finished'])
+    # the second answer comes too early and is refused; the third has fill behind it
+    answers(os.path.join(SEND, 'data', 'notes.answers'), ['nak=' + first, 'finished', 'ack', 'fill=5', 'nak=' + second, 'finished'])
     done = 'no error, data complete, file retained'
     out = metadata(t, name, size) + pieces(t, file, 0, size)
     out += line('->', pdu(t, bytes([4, 0]) + u(4, modular(file)) + u(4, size)), 'EOF no error, %d bytes, checksum %08x' % (size, modular(file)))
     out += line('<-', nak(t, pairs(first)), 'NAK for metadata, 8..32, 40..45, %d..%d' % (size - 2, size))
     out += repairs(t, name, file, pairs(first))
     out += line('<-', finished(t), 'Finished, ' + done + ', refused: 22 UnexpectedPdu')
-    out += line('<-', ack_of_eof(t), 'ACK of EOF')
+    out += line('<-', ack_of_eof(t) + fill('fill=5'), 'ACK of EOF')
     out += line('<-', nak(t, pairs(second)), 'NAK for 16..24')
     out += repairs(t, name, file, pairs(second))
     out += line('<-', finished(t), 'Finished, ' + done)

@@ -1,6 +1,6 @@
 #!/usr/bin/env python3
 """Makes crates/drive/stdin and stdout: document 01's stream M1 to M4 as a list of calls in the format of docs/HOST.md, and its answers; then the same put
-again, refused bursts, and the stream in one burst.
+again, refused bursts, and the stream in one burst; then deliveries with fill.
 
     python3 tests/make_drive.py
 """
@@ -28,6 +28,10 @@ def burst(count, room):
     return b'\6\0' + u(1, count) + u(4, 5) + u(4, room)
 
 
+def deliver(delivery):
+    return b'\2' + u(4, len(delivery)) + delivery
+
+
 def made(number):
     """What the steps of the stream make: the PDUs, each behind its length, and the events: transaction; none; none; EOF-sent and finished (no error, complete, unreported)."""
     n, ids = '%02X' % number, wide(1, 1) + wide(1, number)
@@ -42,6 +46,12 @@ calls = wide(1, 7) + put + step * 5
 answers = b'\1\0' + b''.join(b'\3\0' + m for m in made(7))
 # the number is now 8. A burst of 17 is too long, and one into 16 bytes is too small for the metadata; one of 16 into 61 bytes, which the four PDUs fill, makes five steps
 calls += put + burst(17, 61) + burst(16, 16) + burst(16, 61)
-answers += b'\1\0' + bytes([6, 32, 0]) + bytes([6, 31, 0]) + bytes([6, 0, 5]) + b''.join(made(8)) + b'\xff\0'
+answers += b'\1\0' + bytes([6, 32, 0]) + bytes([6, 31, 0]) + bytes([6, 0, 5]) + b''.join(made(8))
+# Idle: a Finished of nine bytes, alone and with fill, is accepted; an ACK of ten, with it behind, is refused with 22; the fill, and the Finished a byte short, with 20
+finished, ack, fill = bytes.fromhex('2C0002000107020502'), bytes.fromhex('28000300010702064001'), b'\x55' * 300
+for delivery, refusal, length in ((finished, 0, 9), (finished + fill, 0, 9), (ack + finished + fill, 22, 10), (fill, 20, 0), (finished[:-1], 20, 0)):
+    calls += deliver(delivery)
+    answers += bytes([2, refusal]) + u(4, length)
+answers += b'\xff\0'
 open(os.path.join(OUT, 'stdin'), 'wb').write(u(4, len(file)) + file + calls)
 open(os.path.join(OUT, 'stdout'), 'wb').write(answers)

@@ -46,8 +46,15 @@ class Pass:
         self.before = self.model.number
         return self.call(want, 'put', config, Request(to, unack, closure), len(self.file) if S is None else S, *names)
 
-    def deliver(self, want, pdu):
-        return self.call(want, 'deliver', pdu)
+    def deliver(self, want, pdu, fill=b'', own=None):
+        """A PDU and what stands behind it; `own`, by hand, is how many bytes are the PDU's: all of `pdu`, and 0 where it is 20, if not said."""
+        return self.call((want, (0 if want == 20 else len(pdu)) if own is None else own), 'deliver', pdu + fill)
+
+    def cuts(self, pdu):
+        """Cut in each place it is 20, and the number 0."""
+        for n in range(len(pdu)):
+            self.deliver(20, pdu[:n])
+        return self
 
     def header(self, **other):
         if self.model.at == IDLE:
@@ -58,12 +65,12 @@ class Pass:
         h.__dict__.update(other)
         return h
 
-    def body(self, want, body, file_data=False, **header):
-        return self.deliver(want, self.header(**header).to_bytes(body, file_data))
+    def body(self, want, body, file_data=False, fill=b'', **header):
+        return self.deliver(want, self.header(**header).to_bytes(body, file_data), fill)
 
-    def nak(self, *pairs, want=0, **header):
+    def nak(self, *pairs, want=0, fill=b'', **header):
         F = self.header(**header).F
-        return self.body(want, b'\x08' + be(F, 0) + be(F, 99) + b''.join(be(F, a) + be(F, b) for a, b in pairs), **header)
+        return self.body(want, b'\x08' + be(F, 0) + be(F, 99) + b''.join(be(F, a) + be(F, b) for a, b in pairs), fill=fill, **header)
 
     def ack(self, want=0, condition=0, **header):
         return self.body(want, b'\x06\x40' + be(1, condition << 4 | 1), **header)
@@ -71,8 +78,8 @@ class Pass:
     def finished(self, want=0, condition=0, delivery=0, status=2, tlvs=b'', **header):
         return self.body(want, b'\x05' + be(1, condition << 4 | delivery << 2 | status) + tlvs, **header)
 
-    def keep(self, want=0, **header):
-        return self.body(want, b'\x0c' + be(self.header(**header).F, 1), **header)
+    def keep(self, want=0, fill=b'', **header):
+        return self.body(want, b'\x0c' + be(self.header(**header).F, 1), fill=fill, **header)
 
     def each(self, nak, ack, finished):
         """The four kinds in a step where none of them moves it."""
@@ -198,7 +205,7 @@ p = Pass('deliver, Malformed to RetransmitFull, each with a later cause').put()
 good = p.header()
 ack, finished = b'\x06\x40\x01', b'\x05\x02'
 p.deliver(20, b'').deliver(20, b'\x28').deliver(20, b'\x28\0\0\0').deliver(20, good.to_bytes(b'')).deliver(20, good.to_bytes(ack, version=0))
-p.deliver(20, good.to_bytes(ack, length=4)).deliver(20, good.to_bytes(ack, length=2)).deliver(20, good.to_bytes(ack) + b'\0')
+p.deliver(20, good.to_bytes(ack, length=4)).deliver(20, good.to_bytes(ack, length=2)).deliver(22, good.to_bytes(ack), b'\0')
 p.body(20, ack + b'\0', source=9).body(20, b'\x06\x40', to_sender=False).body(20, b'\x06\x41\1').body(20, b'\x06\x50\1').body(20, b'\x06\xc0\1')
 p.body(20, b'\x06\x40\xc1').body(20, b'\x06\x51\xd1').body(20, b'\x05').body(20, b'\x05\xc2').body(20, b'\x05\2\1').body(20, b'\x05\2\2\0').body(20, b'\x05\2\6\2a')
 p.body(20, b'\x05\xd2').body(20, b'\x06\x40\xd1').deliver(20, good.to_bytes(ack, version=2)).deliver(20, good.to_bytes(ack, version=7))
@@ -392,6 +399,58 @@ p = Pass('burst, sixteen and no seventeenth', file=bytes(range(60)), segment=2, 
 p.burst(16, [17] + [13] * 15, room=212).burst(15, [13] * 15).at(EOF).nak(*[(2 * k, 2 * k + 2) for k in range(17)]).burst(16, [13] * 16).burst(16, [13, 17, 0]).at(EOF_ACK)
 
 
+# ---- fill behind the PDU (R-4): what it holds matters to no answer, and each delivery says how many bytes are the PDU's
+
+IDLES = [b'', b'\0', bytes(300), b'\x55' * 7, b'\xff\x00\xff', b'\x28\0', bytes(range(40))]
+p = Pass('fill, M8 to M10 with bytes behind each delivery: the same stream').put().step(3)
+p.nak((0, 4), (0, 0), fill=bytes(300)).step(pdu='30 00 08 00 01 07 02 00 00 00 00 41 42 43 44').step(pdu='20 00 0A 00 01 07 02 07 00 00 00 00 05 01 61 01 62').step()
+p.nak((0, 5), fill=b'\x55' * 300).step(pdu='30 00 08 00 01 07 02 00 00 00 00 41 42 43 44').step(pdu='30 00 05 00 01 07 02 00 00 00 04 45').step(pdu='')
+p.keep(fill=b'\xff').ack(fill=b'\x28').finished(fill=b'\6').step(pdu='20 00 03 00 01 07 02 06 51 01', last='finished').at(IDLE)
+p = Pass('fill, the number on each refusal but 20, in Idle too, also where the body is unread')
+for fill in IDLES:
+    p.nak(want=22, fill=fill).ack(22, fill=fill).finished(fill=fill).keep(fill=fill).body(21, b'\4', fill=fill).body(21, b'', file_data=True, fill=fill)
+p.put()
+for fill in IDLES:
+    p.ack(22, fill=fill).ack(23, fill=fill, source=9).body(21, b'\x06\x51\1', fill=fill).body(21, b'\7' + bytes(20), fill=fill).ack(21, fill=fill, to_sender=False)
+p.step(2).nak((0, 5), want=24, fill=b'\x55').nak((4, 3), want=24, fill=bytes(8)).nak(*[(0, 1)] * 65, want=25, fill=bytes(99)).nak(*[(0, 1)] * 64, fill=bytes(16))
+p.nak((0, 0), want=25, fill=b'\0').keep(23, fill=b'\0', number=(1, 8)).finished(22, fill=b'\6\0', crc=True, width=8, number=(8, 7))
+p = Pass('fill, what looks like more of the PDU is none of it: a pair, a TLV, the rest of a body').put().step(3)
+p.nak((0, 4), (0, 0), fill=be(4, 0) + be(4, 1)).step(2).at(EOF).step(last='eof-sent ack-timer').nak(fill=be(4, 0) + be(4, 0)).step(last='').at(EOF_ACK)
+p.nak((1, 2), fill=be(4, 9) + be(4, 1)).nak((1, 2), fill=be(4, 1)).step(2).step(pdu='').deliver(20, p.header().to_bytes(b'\x08' + bytes(12)), bytes(4))
+p.deliver(20, p.header().to_bytes(b'\x06\x40'), b'\1').deliver(20, p.header().to_bytes(b'\x06'), b'\x40\1').deliver(20, p.header().to_bytes(b''), b'\x06\x40\1')
+p.deliver(20, p.header().to_bytes(b'\x0c' + bytes(3)), b'\0').deliver(20, p.header().to_bytes(b'\x08' + bytes(7)), bytes(9)).ack(fill=b'\1').at(FINISHED)
+p.deliver(20, p.header().to_bytes(b'\5'), b'\2').deliver(20, p.header().to_bytes(b'\5\2\1'), b'\0').deliver(20, p.header().to_bytes(b'\5\2\6\2a'), b'bcd')
+p.finished(fill=b'\2\1a').at(CLOSING).step().at(IDLE)
+p = Pass('fill, the CRC stands where the data field ends').put().to(EOF_ACK)
+h = p.header(crc=True)
+crc = h.to_bytes(b'\x06\x40\1')
+last = h.to_bytes(b'\x06\x40\1' + bytes(3), length=5)                   # the CRC of all that comes stands at the end of the delivery
+p.deliver(20, last).deliver(20, crc[:-2], b'\0\0' + crc[-2:]).deliver(20, crc[:-1] + b'\0', crc[-1:]).deliver(20, crc[:-2]).deliver(20, crc[:-2] + b'\0\0', crc[-2:])
+p.deliver(20, b'\x2a\0\0\0\1\7\2', b'\x06\x40').deliver(20, b'\x2a\0\1\0\1\7\2\6', b'\x40\1\0').deliver(0, crc, b'\0\0').at(FINISHED)
+crc = p.header(crc=True, width=8, number=(8, 7)).to_bytes(b'\5\2')
+p.cuts(crc).deliver(0, crc, crc[-2:]).at(CLOSING).deliver(22, crc, crc).step().at(IDLE)
+p = Pass('a PDU cut in each place').put().to(EOF_ACK)
+p.cuts(p.header().to_bytes(b'\x06\x40\1')).cuts(p.header().to_bytes(b'\x08' + bytes(16))).cuts(p.header(crc=True, width=2, number=(4, 7)).to_bytes(b'\x0c\0\0\0\1'))
+p.cuts(p.header().to_bytes(b'\5\2\6\1\x09')).cuts(p.header().to_bytes(b'\0\0\0\0abc', file_data=True)).step(last='')
+p = Pass('a data field length that says one more, or one less').put().to(EOF_ACK)
+for body in (b'\x06\x40\1', b'\x08' + bytes(8), b'\x0c' + bytes(4), b'\5\2'):
+    n = len(body)
+    p.deliver(20, p.header().to_bytes(body, length=n + 1)).deliver(20, p.header().to_bytes(body, length=n + 1), b'\x55').deliver(20, p.header().to_bytes(body, length=n - 1))
+p.deliver(21, p.header().to_bytes(b'abc', True, length=2), own=9).deliver(21, p.header().to_bytes(b'abc', True, length=4), b'd', own=11).ack()
+p.deliver(0, p.header().to_bytes(b'\5\2', length=4), b'\6\0\x55', own=11).at(CLOSING).step().at(IDLE)       # the two bytes behind are its TLV
+p = Pass('a frame: NAK, ACK, Finished, fill, each delivered from the number before on').put().to(EOF_ACK)
+nak, ack, finished = (p.header().to_bytes(body) for body in (b'\x08' + bytes(12) + be(4, 5), b'\x06\x40\1', b'\5\2'))
+fill = b'\x55' * 5
+p.deliver(0, nak, ack + finished + fill, own=24).step(2).deliver(0, ack, finished + fill, own=10).at(FINISHED).deliver(0, finished, fill, own=9).at(CLOSING)
+p.deliver(20, fill).step().at(IDLE).deliver(20, b'').deliver(20, bytes(300)).put().to(EOF_ACK)
+other, late = (p.header(**h).to_bytes(b'\x06\x40\1') for h in (dict(number=(1, 7)), {}))
+p.deliver(23, other, late + late + fill).deliver(0, late, late + fill).deliver(22, late, fill).deliver(20, fill).at(FINISHED)
+p.deliver(20, fill + late).deliver(20, b'\x28\xff\xff' + late[3:] + fill)      # nothing says where a PDU behind these would start
+p.deliver(22, late[:9], fill, own=10).deliver(20, p.header(crc=True).to_bytes(b'\x06\x40\1')[:-1], b'\x55' * 5)      # a byte lost on the link: the CRC finds it
+long = p.header(width=8, number=(8, 7)).to_bytes(b'\x09' + bytes(29999))
+p.deliver(21, long, bytes(9), own=30028).deliver(20, long[:-1])
+
+
 # ---- what is no call
 
 Pass('a kind that is unknown').put().raw(b'\x08\0\0')
@@ -406,7 +465,7 @@ Pass('no calls')
 # ---- seeded runs
 
 SEED = 727
-for k in range(30):
+for k in range(17):
     runs.append(random_run(random.Random(SEED * 1000 + k), f'random {k}', 1100))
 for k in range(8):
     runs.append(random_run(random.Random(SEED * 2000 + k), f'random with bursts {k}', 900, bursts=True))

@@ -13,7 +13,8 @@ shared with the crates. A record is: kind, length of the label, label, then by k
     5 file data   head; 8 bytes offset; blob; blob: the PDU
     6 EOF         head; condition; 4 bytes sum; 8 bytes size; blob: the PDU
     7 ACK         head; condition; status; blob: the PDU (of Finished)
-    8 delivery    blob; answer (20, 21, or 0 and a meaning: 5 condition delivery status, 6, 8 with 2 bytes of count and pairs of 8 bytes each, 12 with 8 bytes)
+    8 delivery    blob; 3 bytes: how many of them are the PDU's, 0 if it is 20; answer (20, 21, or 0 and a meaning: 5 condition delivery status, 6, 8 with 2
+                  bytes of count and pairs of 8 bytes each, 12 with 8 bytes)
     head: flags (1 unacknowledged, 2 CRC, 4 large), id width, 8 bytes source, sequence width, 8 bytes number, 8 bytes destination
 """
 import binascii, os, struct, zlib
@@ -177,8 +178,10 @@ data('256 bytes, CRC', Head(crc=1), 70000, bytes(range(256)))
 
 # ---- deliveries
 
-def delivery(label, pdu, answer):
-    add(8, 'delivery ' + label, blob(pdu) + answer)
+def delivery(label, pdu, answer, fill=b'', own=None):
+    """`own` bytes are the PDU's: all of `pdu` if not said, none if it is Malformed."""
+    length = 0 if answer == MALFORMED else len(pdu) if own is None else own
+    add(8, 'delivery ' + label, blob(pdu + fill) + u(3, length) + answer)
 
 
 MALFORMED, CANT = b'\x14', b'\x15'
@@ -257,9 +260,31 @@ delivery('CRC flag, data field of 0', b'\x2a\0\0\0\1\7\2', MALFORMED)
 whole = h.pdu(b'\6\x40\1', **back)
 for n in range(len(whole)):
     delivery(f'ACK cut to {n} bytes', whole[:n], MALFORMED)
-delivery('ACK with a byte behind', whole + b'\0', MALFORMED)
 delivery('length field one more', h.pdu(b'\6\x40\1', extra=1, **back), MALFORMED)
+delivery('length field one more, a byte behind', h.pdu(b'\6\x40\1', extra=1, **back), MALFORMED, b'\0')
 delivery('length field one less', h.pdu(b'\6\x40\1', extra=-1, **back), MALFORMED)
+delivery('file data, length field one less', h.pdu(b'abc', filedata=1, extra=-1, **back), CANT, own=9)
+for name, fill in [('a byte', b'\0'), ('300 zeros', bytes(300)), ('300 of 0x55', b'\x55' * 300), ('an ACK', whole), ('an ACK cut short', whole[:-1])]:
+    delivery(f'ACK with {name} behind', whole, ACKEOF, fill)
+    delivery(f'ACK with CRC, {name} behind', good.pdu(b'\6\x40\1', **back), ACKEOF, fill)
+    delivery(f'ACK of Finished with {name} behind', h.pdu(b'\6\x51\1', **back), CANT, fill)
+    delivery(f'file data, empty, {name} behind', h.pdu(b'', filedata=1, **back), CANT, fill)
+    delivery(f'{name} alone', fill, MALFORMED if fill != whole else ACKEOF)
+delivery('NAK with a pair behind', h.pdu(nakbody(4, [(0, 4)]), **back), nak([(0, 4)]), u(4, 1) + u(4, 2))
+delivery('NAK without a pair, one behind', h.pdu(nakbody(4, []), **back), nak([]), u(4, 1) + u(4, 2))
+delivery('NAK with half a pair, the rest behind', h.pdu(nakbody(4, [(0, 4)])[:-4], **back), MALFORMED, u(4, 4))
+delivery('NAK, large, CRC, widths 8, a pair behind', Head(unack=0, crc=1, large=1, idw=8, seqw=8).pdu(nakbody(8, [(1, 2)]), **back), nak([(1, 2)]), u(8, 1) + u(8, 2))
+delivery('Finished with a TLV of type 2 behind', h.pdu(b'\5\2', **back), finished(0, 0, 2), b'\2\1a')
+delivery('Finished with a lone type byte, its length behind', h.pdu(b'\5\2\1', **back), MALFORMED, b'\0')
+delivery('Finished with a TLV of 255, its last byte behind', h.pdu(b'\5\2\1\xff' + long[1:], **back), MALFORMED, b'z')
+delivery('Finished without its byte, one behind', h.pdu(b'\5', **back), MALFORMED, b'\2')
+delivery('ACK too short, a byte behind', h.pdu(b'\6\x40', **back), MALFORMED, b'\1')
+delivery('Keep Alive with bytes behind', h.pdu(b'\x0c' + u(4, 77), **back), keep(77), b'\x55' * 4)
+delivery('Keep Alive too short, a byte behind', h.pdu(b'\x0c' + u(3, 77), **back), MALFORMED, b'\0')
+delivery('no code byte, a PDU behind', h.pdu(b'', **back), MALFORMED, whole)
+delivery('CRC at the end of the delivery', good.pdu(b'\6\x40\1\0\0', extra=-2, **back), MALFORMED)
+delivery('CRC behind the data field', good.pdu(b'\6\x40\1', **back)[:-2], MALFORMED, b'\0\0' + good.pdu(b'\6\x40\1', **back)[-2:])
+delivery('CRC flag, data field of 0, its CRC behind', b'\x2a\0\0\0\1\7\2', MALFORMED, u(2, binascii.crc_hqx(b'\x2a\0\0\0\1\7\2', 0xFFFF)))
 for v in range(8):
     delivery(f'version {v}', h.pdu(b'\6\x40\1', version=v, **back), ACKEOF if v == 1 else MALFORMED)
 for w in range(1, 9):

@@ -1,8 +1,9 @@
-"""Document 01, with document 02's burst and running checksum, as a plain Python class, the independent model of the handler.
+"""Document 01, with document 02's burst, running checksum and fill, as a plain Python class, the independent model of the handler.
 
 Written from the papers' words (and docs/DECISIONS.md where they leave a choice) with nothing taken from the crates. An id or a number is a pair
-(width, value). Each call gives what the handler's call must give: put and deliver a refusal's number or 0; step a refusal's number, the PDU and the
-events; burst a refusal's number and the steps made; cancel True or False; look what the record must hold, the progress and the running checksum.
+(width, value). Each call gives what the handler's call must give: put a refusal's number or 0; deliver the same, and how many of the bytes are the PDU's; step
+a refusal's number, the PDU and the events; burst a refusal's number and the steps made; cancel True or False; look what the record must hold, the progress and
+the running checksum.
 
 The running checksum (R-2) is not kept here: the first-pass bytes are, as they left, and its number is taken anew over all of them.
 """
@@ -117,23 +118,29 @@ def need(number, holds):
         raise Refused(number)
 
 
-def read(pdu):
-    """A delivery by the layouts: (header, kind, values), kind one of 'NAK', 'ACK', 'Finished', 'KeepAlive'. Refusals 20 and 21."""
-    need(20, len(pdu) >= 4)
-    need(20, pdu[0] >> 5 == 1)
-    widths = ((pdu[3] >> 4) % 8 + 1, pdu[3] % 8 + 1)
+def framed(delivery):
+    """A delivery's header, whether it is file data, and its PDU: H and the data field. What stands behind is fill, and nothing else sees it. Refusal 20."""
+    need(20, len(delivery) >= 4)
+    first, widths = delivery[0], ((delivery[3] >> 4) % 8 + 1, delivery[3] % 8 + 1)
+    need(20, first >> 5 == 1)
     need(20, widths[0] in (1, 2, 4, 8) and widths[1] in (1, 2, 4, 8))
-    bit = lambda n: bool(pdu[0] >> n & 1)
+    bit = lambda n: bool(first >> n & 1)
     h = Header((widths[0], 0), (widths[1], 0), (widths[0], 0), unack=bit(2), crc=bit(1), large=bit(0), to_sender=bit(3))
-    field = int.from_bytes(pdu[1:3], 'big')
-    need(20, len(pdu) == h.H + field)
+    field = int.from_bytes(delivery[1:3], 'big')
+    need(20, len(delivery) >= h.H + field)
     at = [4, 4 + widths[0], 4 + widths[0] + widths[1], h.H]
-    h.source, value, h.destination = (int.from_bytes(pdu[a:b], 'big') for a, b in zip(at, at[1:]))
+    h.source, value, h.destination = (int.from_bytes(delivery[a:b], 'big') for a, b in zip(at, at[1:]))
     h.number = (widths[1], value)
-    need(20, field >= h.C)
+    return h, bit(4), delivery[:h.H + field]
+
+
+def read(delivery):
+    """A delivery by the layouts: (header, kind, values), kind one of 'NAK', 'ACK', 'Finished', 'KeepAlive'. Refusals 20 and 21."""
+    h, file_data, pdu = framed(delivery)
+    need(20, len(pdu) >= h.H + h.C)
     body = pdu[h.H:len(pdu) - h.C]
     need(20, not h.crc or crc16(pdu[:-2]) == pdu[-2:])
-    need(21, not bit(4))
+    need(21, not file_data)
     need(20, len(body) >= 1)
     code, rest = body[0], body[1:]
     need(20, code in (4, 5, 6, 7, 8, 9, 12))
@@ -258,15 +265,17 @@ class Handler:
 
     # -- deliver
 
-    def deliver(self, pdu):
+    def deliver(self, delivery):
+        """(refusal, length): "how many bytes belong to the PDU .. on refusals as well, 0 when Malformed"."""
         try:
-            self._deliver(pdu)
-            return 0
+            self._deliver(delivery)
+            refusal = 0
         except Refused as e:
-            return e.args[0]
+            refusal = e.args[0]
+        return refusal, 0 if refusal == 20 else len(framed(delivery)[2])
 
-    def _deliver(self, pdu):
-        h, kind, values = read(pdu)
+    def _deliver(self, delivery):
+        h, kind, values = read(delivery)
         t = self.t
         if self.at != IDLE:
             ours = t.header

@@ -3,13 +3,13 @@
 
     python3 tests/random_passes.py N SEED [PROGRAM]
 
-N lists, each of about 48,000 bytes: some sixty transactions on one handler over one file; then N in which other files of the same length are lent within a
-transaction. PROGRAM is target/bin/drive if not given. The first difference is made small by leaving calls out, and printed in readable form; then the status
+N lists, each of about 48,000 bytes: some sixty transactions on one handler over one file, with fill behind many deliveries, which are then delivered from the
+reported number on; then N in which other files of the same length are lent within a transaction. PROGRAM is target/bin/drive if not given. The first difference is made small by leaving calls out, and printed in readable form; then the status
 is 1.
 """
 import copy, os, platform, random, subprocess, sys
 from calls import LEND, LOOK, Run, answer_bytes, answer_line, answers, call_bytes, call_line, list_bytes
-from model import CHECKSUMS, IDLE, Config, Entry, Handler, Header, Request, be
+from model import CHECKSUMS, IDLE, Config, Entry, Handler, Header, Request, be, crc16
 
 ROOT = os.path.join(os.path.dirname(os.path.abspath(__file__)), '..')
 
@@ -92,7 +92,8 @@ def some_pair(rng, t, wrong):
     return rng.choice([(start, top + 1), (start + 1, start), (top + 1, top + 1), (0, 2 ** 31), (1, 0)])
 
 
-def some_delivery(rng, t):
+def some_pdu(rng, t):
+    """(header, bytes); a few are cut, or have a wrong bit, or a data field length that is not theirs, and then the CRC, if any, stands where the delivery ends."""
     if t is None or rng.random() < 0.04:
         h = Header(some_id(rng), some_id(rng), some_id(rng))
     else:
@@ -124,12 +125,25 @@ def some_delivery(rng, t):
         body = be(1, rng.choice([4, 7, 9, 0, 10, 11, 13, 255])) + rng.randbytes(rng.randrange(9))
     if rng.random() < 0.03:
         body = rng.choice([body[:-1], body + b'\0', b''])
-    pdu = bytearray(h.to_bytes(body, file_data=rng.random() < 0.01))
+    length = max(len(body) + h.C + rng.choice([-1, 1, 2]), 0) if rng.random() < 0.03 else None
+    pdu = bytearray(h.to_bytes(body, file_data=rng.random() < 0.01, length=length))
     if rng.random() < 0.05:
         pdu[rng.randrange(len(pdu))] ^= 1 << rng.randrange(8)
     if rng.random() < 0.01:
         del pdu[rng.randrange(len(pdu)):]
-    return 'deliver', bytes(pdu)
+    return h, bytes(pdu)
+
+
+def some_fill(rng, t, h, pdu):
+    """What stands behind a PDU: 0 to 300 zeros, 0x55s or any bytes; or what looks like more of it, a pair, a TLV, a byte, its CRC; or a PDU, the same or another."""
+    n = rng.choice([rng.randrange(12), rng.randrange(301)])
+    more = [be(h.F, 0) + be(h.F, rng.randrange(9)), b'\6\0', b'\1', crc16(pdu), pdu, some_pdu(rng, t)[1]]
+    return rng.choice([bytes(n), b'\x55' * n, rng.randbytes(n), rng.choice(more), rng.choice(more) + bytes(n)])
+
+
+def some_delivery(rng, t):
+    h, pdu = some_pdu(rng, t)
+    return 'deliver', pdu + (some_fill(rng, t, h, pdu) if rng.random() < 0.4 else b'')
 
 
 def some_lent(rng, t):
@@ -187,15 +201,19 @@ def random_run(rng, label, budget, size=None, room=60000, bursts=False):
     """A list of about `budget` bytes whose answers stay below `room`, with bursts among the steps or with none."""
     number = rng.choice([(1, 7), (1, 254), (2, 65534), (2, 300), (4, 2 ** 32 - 2), (8, 2 ** 64 - 2), (1, 0), some_id(rng)])
     file = rng.randbytes(rng.choice([5, 16, 40, 64]) if size is None else size)
-    model, calls, used, answered = Handler(number), [], 0, 0
+    model, calls, used, answered, rest = Handler(number), [], 0, 0, b''
     while used < budget and answered < room:
-        call = some_call(rng, model, len(file), bursts)
+        call = ('deliver', rest) if rest and rng.random() < 0.4 else some_call(rng, model, len(file), bursts)
         calls.append(call)
         if call[0] == 'step':
             answered += 50 + len(model.step(bool(call[1]), file[:call[2]], min(call[3], 4608))[1])
         elif call[0] == 'burst':
             made = model.burst(bool(call[1]), call[2], file[:call[3]], min(call[4], 4608))[1]
             answered += 3 + sum(50 + len(pdu) for pdu, _, _ in made)
+        elif call[0] == 'deliver':
+            length = model.deliver(call[1])[1]
+            rest = call[1][length:] if length else b''
+            answered += 6
         else:
             getattr(model, call[0])(*call[1:])
             answered += 2
@@ -241,6 +259,11 @@ def mixed_eofs(run):
         if kind in ('step', 'burst') and any(map(is_eof, pdus)):
             count += t.sum != CHECKSUMS[t.checksum](lent[:t.progress])
     return count
+
+
+def with_fill(run, given):
+    """How many deliveries hold more than their PDU."""
+    return sum(call[0] == 'deliver' and 0 < answer[2] < len(call[1]) for call, answer in zip(run.calls, given))
 
 
 # ---- the program
@@ -291,6 +314,8 @@ def records(answer):
         kind, n = answer[at], 2
         if kind in (5, LEND):
             n = 1
+        if kind == 2:
+            n = 6
         if kind == LOOK:
             n = 13
         if kind == 3:
@@ -325,7 +350,7 @@ def show(program, run):
 
 def compare(program, count, seed, changes=False, looks=False):
     """1 if a list differs. `program` is the words that start it."""
-    calls = puts = bursted = changed = mixed = 0
+    calls = puts = bursted = filled = changed = mixed = 0
     for k in range(count):
         rng = random.Random(seed * 1000003 + k)
         run = random_run(rng, '', 48000, rng.choice([5, 64, 200, 300, 300, 6000]), bursts=True)
@@ -333,16 +358,19 @@ def compare(program, count, seed, changes=False, looks=False):
             run = with_changes(rng, run, looks)
             changed += sum(c[0] == 'lend' for c in run.calls)
             mixed += mixed_eofs(run)
-        if differs(program, run):
+        given = answers(run)
+        if driven(program, run) != answer_bytes(given):
             print('list %d differs' % k)
             show(program, run)
             return 1
         calls += len(run.calls)
         puts += sum(c[0] == 'put' for c in run.calls)
         bursted += sum(c[0] == 'burst' for c in run.calls)
+        filled += with_fill(run, given)
     said = ', the file changed %d times, %d EOFs with a checksum that the file lent then does not have' % (changed, mixed) if changes else ''
-    print('%d lists, %d calls, %d of them puts and %d bursts%s: all as the model says' % (count, calls, puts, bursted, said), flush=True)
-    return int(changes and count > 0 and not mixed)        # lists that could not tell count for nothing
+    print('%d lists, %d calls, %d of them puts, %d bursts and %d deliveries of a PDU with bytes behind it%s: all as the model says' % (
+        count, calls, puts, bursted, filled, said), flush=True)
+    return int(count > 0 and not (filled and (mixed or not changes)))       # lists that could not tell count for nothing
 
 
 def main():

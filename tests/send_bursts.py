@@ -5,7 +5,7 @@
 
 Compared are the PDUs, in one of the three forms, the capture, and standard error. The passes: the demo for every burst from 0 to 16; passes made to meet a
 burst's ends (signs of life, repairs of many requests, the longest PDUs, expiry, writes that fail at any place); and N random ones
-(default 100, seed 1) with random answers. Words that are no burst must be complained of. PROGRAM is target/bin/send if not given (rt check send). Status 0,
+(default 100, seed 1) with random answers, fill behind some. Words that are no burst must be complained of. PROGRAM is target/bin/send if not given (rt check send). Status 0,
 or 1 where something differs.
 """
 import os, random, resource, subprocess, sys, tempfile
@@ -122,7 +122,7 @@ def failing(bench, rng):
 def at_random(bench, rng):
     asked = Asked(rng).meet()
     write(bench.path('file'), asked.file)
-    write(bench.path('answers'), framed(asked.answers))
+    write(bench.path('answers'), framed([pdu + b'\x55' * rng.choice([0, rng.randrange(301)]) for pdu in asked.answers]))
     bench.hold(['file'] + asked.words() + ['answers=answers', 'out=out', 'pcap=pcap'] + rng.choice(FORMS), rng.sample(range(1, 17), 2))
 
 

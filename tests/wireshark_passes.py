@@ -1,6 +1,7 @@
 """Random whole passes with their meaning: through the program `drive` (cancels, repairs, expiry at any place) and through `send .. pcap=FILE`.
 
-A pass is what left and what came, in order: pairs (bytes, meaning), where the bytes that left are our handler's own and the meaning is the model's.
+A pass is what left and what came, in order: pairs (bytes, meaning), where the bytes that left are our handler's own and the meaning is the model's. What
+comes has no fill behind it: the dissector is given PDUs.
 """
 import os, subprocess
 import model
@@ -133,7 +134,7 @@ class Batch:
             self.answered += 50 + len(pdu)
         else:
             pdu, done = values[0] if kind == 'deliver' else b'', getattr(self.model, kind)(*values)
-            self.answered += 2
+            self.answered += 6
             self.cancels += kind == 'cancel' and done
         self.meant.append(pdu)
 

@@ -4,12 +4,13 @@
 //!
 //! `unsafe` stands in the seven calls alone. They are sound for every value of `Handler`: it holds numbers only, and the C functions take any
 //! bit pattern of it, any slice and any number, and return. `&mut self` gives them what else they ask: one call at a time, and no overlap.
-//! The report that a burst fills is the call's own.
+//! The reports that a delivery and a burst fill are the calls' own.
 //!
 //! What is left to you: lend the same file, unchanged, from an accepted put until `is_idle`; once the timer has run out, say `expired` at
 //! every step and burst until an event starts a timer; send `Step::pdu` before the next step, and all of a `Burst` before the next burst.
 
 use core::fmt;
+use core::iter::FusedIterator;
 use core::mem::{align_of, offset_of, size_of};
 
 // ---- Numbers
@@ -173,6 +174,11 @@ struct Report {
 }
 
 #[repr(C)]
+struct DeliverReport {
+    length: u64,
+}
+
+#[repr(C)]
 #[derive(Clone, Copy, Debug, PartialEq, Eq)]
 struct BurstReport {
     count: u64,
@@ -203,6 +209,7 @@ const _: () = assert!(size_of::<Remote>() == 40 && offset_of!(Remote, checksum) 
 const _: () = assert!(offset_of!(Transaction, segment) == 48 && offset_of!(Transaction, unacknowledged) == 80);
 const _: () = assert!(offset_of!(FileParams, sum) == 8 && bytes_of(&EMPTY.file.sum) == 4);
 const _: () = assert!(offset_of!(Report, transaction) == 48 && offset_of!(Report, values) == 54 && offset_of!(Report, timer) == 57);
+const _: () = assert!(size_of::<DeliverReport>() == 8 && align_of::<DeliverReport>() == 8);
 const _: () = assert!(size_of::<BurstReport>() == 1032 && align_of::<BurstReport>() == 8 && offset_of!(BurstReport, steps) == 8);
 
 const fn bytes_of<T>(_: &T) -> usize {
@@ -326,6 +333,58 @@ impl<'a> Iterator for Burst<'a> {
 
 impl ExactSizeIterator for Burst<'_> {}
 
+// ---- What a delivery says
+
+/// What the handler answered to a delivery, and how many of the delivered bytes are the PDU's, refused or not: the bytes from there on are fill, or
+/// the next PDU. 0 if it was `Malformed`.
+#[must_use]
+#[derive(Clone, Copy, Debug, PartialEq, Eq)]
+pub struct Delivery {
+    pub answer: Result<(), Refusal>,
+    pub length: usize,
+}
+
+/// One PDU of a frame, as it stands there, and what the handler answered. Never `Malformed`.
+#[derive(Clone, Copy, Debug, PartialEq, Eq)]
+pub struct Received<'f> {
+    pub pdu: &'f [u8],
+    pub answer: Result<(), Refusal>,
+}
+
+/// The PDUs of a received frame, from the front: each `next` delivers one, and gives it with its answer; a refused one does not end the frame. It ends
+/// where nothing is left, or at the first `Malformed`, which is not given: what is left is then fill or a damaged PDU, and nothing says where a PDU behind
+/// that would start. A frame of fill alone gives nothing.
+#[must_use = "nothing is delivered before it is asked for"]
+#[derive(Debug)]
+pub struct Frame<'h, 'f> {
+    handler: &'h mut Handler,
+    rest: &'f [u8],
+}
+
+impl<'f> Frame<'_, 'f> {
+    /// The bytes behind the PDUs that were taken. After the end, if it is not the fill that you know, something was damaged.
+    pub fn rest(&self) -> &'f [u8] {
+        self.rest
+    }
+}
+
+impl<'f> Iterator for Frame<'_, 'f> {
+    type Item = Received<'f>;
+
+    fn next(&mut self) -> Option<Received<'f>> {
+        let Delivery { answer, length } = self.handler.deliver(self.rest);
+        if length == 0 {
+            return None;
+        }
+        let (pdu, rest) = self.rest.split_at(length);
+        self.rest = rest;
+        Some(Received { pdu, answer })
+    }
+}
+
+/// Whether bytes are `Malformed` rests on them alone, so the end stays the end.
+impl FusedIterator for Frame<'_, '_> {}
+
 // ---- Refusals
 
 /// Document 01's refusals, by its numbers. A refused call changes nothing. docs/REFUSALS.md says what to do.
@@ -394,7 +453,7 @@ fn answer(code: u32) -> Result<(), Refusal> {
 // ---- The calls
 
 mod c {
-    use super::{BurstReport, Handler};
+    use super::{BurstReport, DeliverReport, Handler};
 
     unsafe extern "C" {
         pub fn tsendrivaty_new(handler: *mut Handler, width: u8, number: u64) -> u32;
@@ -410,7 +469,7 @@ mod c {
             destination_name_length: usize,
             size: u64,
         ) -> u32;
-        pub fn tsendrivaty_deliver(handler: *mut Handler, bytes: *const u8, length: usize) -> u32;
+        pub fn tsendrivaty_deliver(handler: *mut Handler, bytes: *const u8, length: usize, report: *mut DeliverReport) -> u32;
         pub fn tsendrivaty_step(
             handler: *mut Handler,
             file: *const u8,
@@ -468,9 +527,16 @@ impl Handler {
         answer(unsafe { c::tsendrivaty_put(self, width, to, mode, closure, s.as_ptr(), s.len(), d.as_ptr(), d.len(), p.size) })
     }
 
-    /// Takes one whole PDU from the link: refusals 20 to 25. Emits nothing.
-    pub fn deliver(&mut self, pdu: &[u8]) -> Result<(), Refusal> {
-        answer(unsafe { c::tsendrivaty_deliver(self, pdu.as_ptr(), pdu.len()) })
+    /// Takes the PDU in front of `bytes`, nothing before it: refusals 20 to 25. What stands behind it is not looked at. Emits nothing.
+    pub fn deliver(&mut self, bytes: &[u8]) -> Delivery {
+        let mut report = DeliverReport { length: 0 };
+        let answer = answer(unsafe { c::tsendrivaty_deliver(self, bytes.as_ptr(), bytes.len(), &mut report) });
+        Delivery { answer, length: report.length as usize }
+    }
+
+    /// Takes the PDUs of a received frame, one behind the other, up to the fill: an iterator, which delivers each as it is asked for it.
+    pub fn deliver_frame<'h, 'f>(&'h mut self, frame: &'f [u8]) -> Frame<'h, 'f> {
+        Frame { handler: self, rest: frame }
     }
 
     /// One step over the lent file: refusals 30 and 31, or at most one PDU in front of `out`, and the events.

@@ -7,7 +7,7 @@
 #define SLICE const uint8_t *p, size_t n
 uint32_t right_calls_new(H, uint8_t width, uint64_t number);
 uint32_t right_calls_put(H, uint8_t width, uint64_t to, uint8_t mode, uint8_t closure, SLICE, const uint8_t *q, size_t m, uint64_t size);
-uint32_t right_calls_deliver(H, SLICE);
+uint32_t right_calls_deliver(H, SLICE, struct tsendrivaty_deliver_report *report);
 uint32_t right_calls_step(H, SLICE, uint8_t expired, uint8_t *out, size_t room);
 uint32_t right_calls_burst(H, SLICE, uint8_t expired, size_t count, uint8_t *out, size_t room, struct tsendrivaty_burst_report *report);
 uint32_t right_calls_cancel(H, uint8_t width, uint64_t source, uint8_t number_width, uint64_t number);
@@ -59,8 +59,35 @@ uint32_t tsendrivaty_put(H, uint8_t width, uint64_t to, uint8_t mode, uint8_t cl
     return r;
 }
 
-uint32_t tsendrivaty_deliver(H, SLICE) {
-    uint32_t r = right_calls_deliver(h, p, n);
+/* How many bytes the header says, of a delivery that has one. */
+static uint64_t by_the_header(SLICE) {
+    return n < 4 ? 0 : 4 + 2 * ((uint64_t)(p[3] >> 4) % 8 + 1) + p[3] % 8 + 1 + (p[1] << 8 | p[2]);
+}
+
+/* The same delivery with a data field of eight bytes more, as if the fill were a pair of the NAK. */
+static uint32_t with_a_pair_more(H, SLICE, struct tsendrivaty_deliver_report *report) {
+    static uint8_t bytes[1 << 17];
+    for (size_t i = 0; i < n; i++) bytes[i] = p[i];
+    bytes[2] = (uint8_t)(p[2] + 8);
+    return right_calls_deliver(h, bytes, n, report);
+}
+
+uint32_t tsendrivaty_deliver(H, SLICE, struct tsendrivaty_deliver_report *report) {
+    const struct tsendrivaty_deliver_report before = *report;
+    const struct tsendrivaty_handler held = *h;
+    uint32_t r = right_calls_deliver(h, p, n, report);
+    uint64_t own = report->length;
+    if (IS(38) && own) report->length++;
+    if (IS(39) && own) report->length = n;
+    if (IS(40) && own && p[0] & 2) report->length -= 2;
+    if (IS(41) && r) *report = before;
+    if (IS(42) && !own) report->length = by_the_header(p, n);
+    if (IS(43)) report->length = own % 65536;
+    if (IS(44) && own && own < n) *h = held, report->length = 0, r = TSENDRIVATY_MALFORMED;
+    if (IS(45) && !r && own > 8 && own + 8 <= n && p[7] == 8 && p[3] == 0) *h = held, r = with_a_pair_more(h, p, n, report);
+    if (IS(46) && r) h->report.length = own;
+    if (IS(49) && !own) *report = before;
+    if (IS(50)) report[1].length ^= 1;
     return IS(5) && r == TSENDRIVATY_MALFORMED ? 0 : r;
 }
 
@@ -118,8 +145,8 @@ uint32_t tsendrivaty_burst(H, SLICE, uint8_t expired, size_t count, uint8_t *out
     if (IS(21) && made && taken < room) out[taken] ^= 1;
     if (IS(22) && r == TSENDRIVATY_OUT_TOO_SMALL) report->count = 0, r = 0;
     if (IS(34) && made && h->step) h->file.sum = was.file.sum;
-    if (IS(38) && made && made < 16) report->steps[made] = none;
-    if (IS(39) && r) report->count++;
+    if (IS(47) && made && made < 16) report->steps[made] = none;
+    if (IS(48) && r) report->count++;
     return r;
 }
 

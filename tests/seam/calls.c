@@ -66,6 +66,15 @@ static void put(void) {
     say(1, tsendrivaty_put(&h, to.width, to.value, mode, closure, in + s, sn, in + d, dn, size));
 }
 
+/* The report holds another number before each delivery, so that one which is not written shows. */
+static void deliver(void) {
+    struct tsendrivaty_deliver_report report = {~(uint64_t)0};
+    size_t n = take(4), d = at;
+    at += n;
+    say(1, tsendrivaty_deliver(&h, in + d, n, &report));
+    say(4, report.length);
+}
+
 static size_t least(size_t a, size_t b) {
     return a < b ? a : b;
 }
@@ -119,9 +128,7 @@ int main(void) {
         if (kind == 1) {
             put();
         } else if (kind == 2) {
-            size_t n = take(4), d = at;
-            at += n;
-            say(1, tsendrivaty_deliver(&h, in + d, n));
+            deliver();
         } else if (kind == 3) {
             step(in + file + from, length - from);
         } else if (kind == 4) {

@@ -50,12 +50,15 @@ static void sixteen(void) {
     for (int i = 0; i < 16; i++) step(0);
 }
 
+static size_t fill; /* so many bytes behind each PDU */
+
 static void directive(const uint8_t *body, size_t n) {
     static uint8_t pdu[1024];
+    static struct tsendrivaty_deliver_report report;
     const uint8_t head[] = {0x28, (uint8_t)(n >> 8), (uint8_t)n, 0, 1, 7, 2};
     memcpy(pdu, head, sizeof head);
     memcpy(pdu + sizeof head, body, n);
-    answer = tsendrivaty_deliver(&h, pdu, sizeof head + n);
+    answer = tsendrivaty_deliver(&h, pdu, sizeof head + n + fill, &report);
 }
 
 /* `count` requests of `length` bytes each, one byte further on each. */
@@ -98,7 +101,7 @@ static const struct {
     size_t size;
     int steps;      /* before the call; -1: no put either */
     char before;    /* before the call: delivered n NAK of a request, l of 40 short ones, a ACK of EOF; c cancel */
-    char call;      /* p put, s step, e step that sends an EOF, x refused step, n deliver of a NAK, a of an ACK of EOF, f of a Finished PDU, k of a Keep Alive, u of an ACK that is refused, r reset, c cancel, w a whole
+    char call;      /* p put, s step, e step that sends an EOF, x refused step, n deliver of a NAK, a of an ACK of EOF, i the same with fill behind it, f of a Finished PDU, k of a Keep Alive, u of an ACK that is refused, r reset, c cancel, w a whole
                        pass, b a burst of sixteen steps, 6 the same by sixteen calls, m memcpy of a data PDU's bytes */
     uint32_t naks;
 } CASES[] = {
@@ -107,6 +110,7 @@ static const struct {
     {"nak_64", 0, 15, 4096, SIZE, 3, 0, 'n', 64},    {"nak_1", 0, 15, 4096, SIZE, 3, 0, 'n', 1},     {"put", 0, 15, 4096, SIZE, -1, 0, 'p', 0},
     {"eof_null", 0, 15, 4096, 4000, 2, 0, 's', 0},   {"cancel", 0, 15, 4096, SIZE, 3, 0, 'c', 0},    {"reset", 0, 15, 4096, SIZE, 3, 0, 'r', 0},
     {"refused", 0, 15, 4096, SIZE, 3, 0, 'x', 0},    {"copy", 0, 15, 4096, SIZE, 3, 0, 'm', 0},      {"ack", 0, 15, 4096, 4000, 3, 0, 'a', 0},
+    {"ack_fill", 0, 15, 4096, 4000, 3, 0, 'i', 0},
     {"finished", 0, 15, 4096, 4000, 3, 'a', 'f', 0}, {"keep_alive", 0, 15, 4096, SIZE, 3, 0, 'k', 0}, {"ack_refused", 0, 15, 4096, SIZE, 3, 0, 'u', 0},
     {"burst", 0, 15, 4096, LONG, 3, 0, 'b', 0},      {"burst_100", 0, 15, 100, LONG, 3, 0, 'b', 0},  {"burst_repair", 0, 15, 100, SIZE, 90, 'n', 'b', 0},
     {"sixteen", 0, 15, 4096, LONG, 3, 0, '6', 0},    {"sixteen_100", 0, 15, 100, LONG, 3, 0, '6', 0}, {"sixteen_repair", 0, 15, 100, SIZE, 90, 'n', '6', 0},
@@ -147,6 +151,7 @@ __attribute__((noinline)) static void called(size_t k) {
     case 'r': answer = tsendrivaty_reset(&h); break;
     case 'x': tsendrivaty_step(&h, file, 1, 0, out, sizeof out); break;
     case 'a': ack_of_eof(); break;
+    case 'i': fill = 300; ack_of_eof(); break;
     case 'f': finished(); break;
     case 'k': keep_alive(); break;
     case 'u': ack_of_eof(); answer = answer != 22; break;

@@ -1,7 +1,7 @@
 /* A test host in C: runs the seven functions over one handler and prints a line for each call; tests/link compares the lines with expected.txt, whose
  * bytes are the model's. Beside that, each call is watched: a refused one may change no number of the handler or of a burst's report and no byte of
- * `out`, no call may touch the configuration, the lent slices, bytes of `out` behind the PDU, or what lies around the handler, the report and `out`; a
- * burst must leave what the same steps leave, made one by one. host.rs prints the same. */
+ * `out`, no call may touch the configuration, the lent slices, bytes of `out` behind the PDU, another call's report, or what lies around the handler, the
+ * reports and `out`; a delivery must write its report, and a burst leave what the same steps leave, made one by one. host.rs prints the same. */
 #include "../../include/tsendrivaty.h"
 
 int printf(const char *, ...); /* by hand: the kit's compiler has no headers of the C library */
@@ -17,6 +17,8 @@ static struct memory {
     uint8_t before[EDGE];
     struct tsendrivaty_handler h;
     uint8_t between[EDGE];
+    struct tsendrivaty_deliver_report d;
+    uint8_t behind[EDGE];
     struct tsendrivaty_burst_report r;
     uint8_t beside[EDGE];
     uint8_t out[FRAME + EDGE];
@@ -80,13 +82,17 @@ static void watch(void) {
     memcpy(&was, &m, offsetof(struct memory, out) + room + EDGE);
 }
 
-/* Whether no more has changed than may: `length` bytes of `out`, and the report where the call is a burst. */
-static int kept(int refused, int burst, size_t length) {
+enum call { DELIVERY, BURST, OTHER };
+
+/* Whether no more has changed than may: `length` bytes of `out`, and the report of a delivery or a burst. */
+static int kept(int refused, enum call call, size_t length) {
     struct tsendrivaty_handler h = was.h;
     memcpy(&h.config, &m.h.config, sizeof h.config);
-    return memcmp(m.before, was.before, EDGE) == 0 && memcmp(m.between, was.between, EDGE) == 0 && memcmp(m.beside, was.beside, EDGE) == 0
+    return memcmp(m.before, was.before, EDGE) == 0 && memcmp(m.between, was.between, EDGE) == 0 && memcmp(m.behind, was.behind, EDGE) == 0
+        && memcmp(m.beside, was.beside, EDGE) == 0
         && same(&h, &was.h) && length <= room && memcmp(m.out + length, was.out + length, room + EDGE - length) == 0
-        && (burst ? !refused || same_reports(&m.r, &was.r) : memcmp(&m.r, &was.r, sizeof m.r) == 0)
+        && (call == DELIVERY || m.d.length == was.d.length)
+        && (call == BURST ? !refused || same_reports(&m.r, &was.r) : memcmp(&m.r, &was.r, sizeof m.r) == 0)
         && (!refused || (length == 0 && same(&m.h, &was.h)));
 }
 
@@ -97,7 +103,7 @@ static void ended(int ok) {
 }
 
 static void watched(int refused, size_t length) {
-    ended(kept(refused, 0, length));
+    ended(kept(refused, OTHER, length));
 }
 
 /* ---- a burst beside the same steps one by one */
@@ -122,8 +128,8 @@ static int as_steps(uint32_t answer, size_t length, uint8_t expired, size_t coun
         if (!one.report.length) break;
     }
     if (made.count) r = 0;
-    if (r) return answer == r && kept(1, 1, 0);
-    return answer == 0 && same_reports(&m.r, &made) && same(&m.h, &one) && memcmp(m.out, out, space) == 0 && kept(0, 1, at);
+    if (r) return answer == r && kept(1, BURST, 0);
+    return answer == 0 && same_reports(&m.r, &made) && same(&m.h, &one) && memcmp(m.out, out, space) == 0 && kept(0, BURST, at);
 }
 
 /* ---- calls, each a line */
@@ -165,11 +171,33 @@ static void put(uint8_t unacknowledged, uint8_t closure) {
     put_named(1, 2, unacknowledged, closure, "a", 1, "b", 1);
 }
 
-static void deliver(const uint8_t *pdu, size_t n) {
+/* The report holds another number before each delivery, so that one which is not written shows. */
+static uint32_t delivered(const uint8_t *bytes, size_t n) {
+    m.d.length = ~(uint64_t)0;
     watch();
-    uint32_t r = tsendrivaty_deliver(&m.h, pdu, n);
-    printf("deliver %u", r);
-    watched(r != 0, 0);
+    return tsendrivaty_deliver(&m.h, bytes, n, &m.d);
+}
+
+static void told(uint32_t r) {
+    printf("deliver %u %lu", r, (unsigned long)m.d.length);
+    ended(kept(r != 0, DELIVERY, 0));
+}
+
+static void deliver(const uint8_t *bytes, size_t n) {
+    told(delivered(bytes, n));
+}
+
+/* A received frame: PDU after PDU, up to the first that is Malformed, and how much is left there. */
+static void deliver_frame(const uint8_t *bytes, size_t n) {
+    uint32_t r = delivered(bytes, n);
+    while (m.d.length && m.d.length <= n) {
+        told(r);
+        bytes += m.d.length;
+        n -= m.d.length;
+        r = delivered(bytes, n);
+    }
+    printf("rest %lu", (unsigned long)n);
+    ended(r == TSENDRIVATY_MALFORMED && m.d.length == 0 && kept(1, DELIVERY, 0));
 }
 
 /* A PDU's bytes; of a long one the first sixteen, its length, and a sum over all (FNV-1a). */
@@ -253,14 +281,50 @@ static void directive(uint8_t number, const uint8_t *body, size_t n) {
     deliver(pdu, framed(pdu, number, body, n));
 }
 
-static void nak(uint8_t number, const uint32_t *pairs, size_t n) {
-    static uint8_t body[1200];
+static size_t nak_body(uint8_t *body, const uint32_t *pairs, size_t n) {
     size_t at = 9;
     memset(body, 0, at);
     body[0] = 8;
     for (size_t i = 0; i < 2 * n; i++)
         for (int k = 24; k >= 0; k -= 8) body[at++] = (uint8_t)(pairs[i] >> k);
-    directive(number, body, at);
+    return at;
+}
+
+static void nak(uint8_t number, const uint32_t *pairs, size_t n) {
+    static uint8_t body[1200];
+    directive(number, body, nak_body(body, pairs, n));
+}
+
+/* A frame that is put together, PDU behind PDU and fill behind these, then delivered. */
+static uint8_t frame[70000];
+static size_t frame_length;
+
+static void add(uint8_t number, const uint8_t *body, size_t n) {
+    frame_length += framed(frame + frame_length, number, body, n);
+}
+
+static void add_ack(uint8_t number) {
+    add(number, (const uint8_t[]){6, 0x40, 1}, 3);
+}
+
+static void add_nak(uint8_t number, const uint32_t *pairs, size_t n) {
+    uint8_t body[100];
+    add(number, body, nak_body(body, pairs, n));
+}
+
+static void add_fill(uint8_t byte, size_t n) {
+    memset(frame + frame_length, byte, n);
+    frame_length += n;
+}
+
+static void first_of_frame(void) {
+    deliver(frame, frame_length);
+    frame_length = 0;
+}
+
+static void all_of_frame(void) {
+    deliver_frame(frame, frame_length);
+    frame_length = 0;
 }
 
 static void ack_of_eof(uint8_t number) {
@@ -330,6 +394,92 @@ static void refusals(void) {
     step_in(5, 1, 3);
 }
 
+/* What stands behind a PDU matters to no answer; each delivery says how many bytes are the PDU's. */
+static void fills(void) {
+    fresh("fill behind deliveries, and what looks like more of the PDU", 1, 7, 5);
+    add_ack(7);
+    add_fill(0x55, 1);
+    first_of_frame();
+    put(0, 2);
+    steps(3, 0);
+    add_nak(7, (const uint32_t[]){0, 4, 0, 0}, 2);
+    add_fill(0, 8); /* no third pair */
+    first_of_frame();
+    steps(3, 0);
+    add_nak(7, (const uint32_t[]){0, 5}, 1);
+    add_fill(0, 300);
+    first_of_frame();
+    steps(3, 0);
+    add(7, (const uint8_t[]){6, 0x40}, 2);
+    add_fill(1, 1); /* not the ACK's third byte */
+    first_of_frame();
+    add(7, (const uint8_t[]){4, 0}, 2);
+    add_fill(0x55, 300);
+    first_of_frame();
+    add_ack(8);
+    add_fill(0x55, 3);
+    first_of_frame();
+    add(7, (const uint8_t[]){5, 2}, 2);
+    add_fill(0x55, 3);
+    first_of_frame();
+    add_nak(7, (const uint32_t[]){0, 6}, 1);
+    add_fill(0x55, 3);
+    first_of_frame();
+    for (size_t n = 0; n < 10; n++) { /* cut in each place */
+        add_ack(7);
+        frame_length = n;
+        first_of_frame();
+    }
+    add_ack(7);
+    add_fill(0x55, 2);
+    first_of_frame();
+    add(7, (const uint8_t[]){5, 2}, 2);
+    add_fill(6, 1);
+    first_of_frame();
+    steps(2, 0);
+    /* the longest there is: file data with numbers of eight bytes and a data field of 65,535 */
+    memset(frame, 1, sizeof frame);
+    memcpy(frame, (const uint8_t[]){0x38, 0xFF, 0xFF, 0x77}, 4);
+    deliver(frame, 65563);
+    deliver(frame, 65562);
+    deliver(frame, sizeof frame);
+}
+
+static void frames(void) {
+    fresh("frames: several PDUs, fill behind, refused ones between, a damaged one", 1, 7, 5);
+    add_fill(0x55, 5);
+    all_of_frame();
+    all_of_frame();
+    put(0, 2);
+    steps(4, 0);
+    add_nak(7, (const uint32_t[]){0, 5}, 1);
+    add_ack(7);
+    add_fill(0x55, 5);
+    all_of_frame();
+    steps(3, 0);
+    add_fill(0, 300);
+    all_of_frame();
+    add_ack(7);
+    add_nak(7, (const uint32_t[]){0, 0}, 1);
+    add_ack(8);
+    add_nak(7, (const uint32_t[]){0, 6}, 1);
+    add(7, (const uint8_t[]){4}, 1);
+    add(7, (const uint8_t[]){12, 0, 0, 0, 0}, 5);
+    all_of_frame();
+    steps(2, 0);
+    add(7, (const uint8_t[]){12, 0, 0, 0, 0}, 5);
+    add_ack(7);
+    frame[12] ^= 0x40; /* the ACK's version: the Finished behind it is not found */
+    add(7, (const uint8_t[]){5, 2}, 2);
+    all_of_frame();
+    steps(1, 0);
+    add(7, (const uint8_t[]){5, 2}, 2);
+    add_ack(7);
+    add_fill(0xFF, 9);
+    all_of_frame();
+    steps(2, 0);
+}
+
 static void cancels(void) {
     fresh("cancel, reset, second put", 1, 255, 5);
     cancel(1, 255);
@@ -371,6 +521,7 @@ static void wide(void) {
     steps(2, 1);
     put_named(4, 0x89ABCDEF, 2, 2, "\xC3\xA9", 2, "\xF0\x9F\x98\x80", 4);
     deliver((const uint8_t *)"\x2A\x00\x07\x37\x00\x00\x12\x34\x00\x00\x00\x00\x00\x00\x00\x01\x89\xAB\xCD\xEF\x0C\x00\x00\x00\x00\xAA\xB6", 27);
+    deliver((const uint8_t *)"\x2A\x00\x07\x37\x00\x00\x12\x34\x00\x00\x00\x00\x00\x00\x00\x01\x89\xAB\xCD\xEF\x0C\x00\x00\x00\x00\xAA\xB6\xAA\xB6", 29);
     steps(1, 255);
 }
 
@@ -611,6 +762,7 @@ static size_t some_pdu(uint8_t *p) {
         for (int k = 56; k >= 0; k -= 8) p[at++] = (uint8_t)(ids[i] >> k);
     for (size_t i = 0; i < n; i++) p[at++] = i < 3 ? bodies[kind][i] : (i - 1) % 4 == 3 ? (uint8_t)(some() % 22) : 0;
     if (some() % 4 == 0) p[some() % at] = (uint8_t)some();
+    for (size_t fill = some() % 2 ? some() % 100 : 0; fill; fill--) p[at++] = (uint8_t)some();
     return at;
 }
 
@@ -630,8 +782,8 @@ static int one_call(int call) {
         if (n > space) return 0;
     } else if (call == 1) {
         n = some_pdu(bytes);
-        r = tsendrivaty_deliver(&m.h, bytes, n);
-        n = 0;
+        r = delivered(bytes, n);
+        return known(r) && (r == TSENDRIVATY_MALFORMED) == (m.d.length == 0) && m.d.length <= n && kept(r != 0, DELIVERY, 0);
     } else if (call == 2) {
         for (n = 0; n < 300; n++) bytes[n] = (uint8_t)(some() % 128);
         n = some() % 300;
@@ -650,7 +802,7 @@ static int one_call(int call) {
         r = tsendrivaty_burst(&m.h, file, length, expired, count, m.out, space, &m.r);
         return known(r) && as_steps(r, length, expired, count, space);
     }
-    return known(r) && kept(r != 0, 0, n);
+    return known(r) && kept(r != 0, OTHER, n);
 }
 
 static void garbage(int way, const char *label, int rounds) {
@@ -701,7 +853,7 @@ static void random_delivery(void) {
             body[n + 7] = (uint8_t)(start + some() % (top - start));
         }
     }
-    tsendrivaty_deliver(&m.h, pdu, framed(pdu, (uint8_t)m.h.transaction.number.value, body, n));
+    tsendrivaty_deliver(&m.h, pdu, framed(pdu, (uint8_t)m.h.transaction.number.value, body, n) + some() % 50, &m.d);
 }
 
 /* One burst, behind perhaps a put, a delivery, a cancel or a reset; over the one file or the other. */
@@ -741,6 +893,8 @@ int main(void) {
     byte_cases();
     acknowledged();
     refusals();
+    fills();
+    frames();
     cancels();
     wide();
     bursts();

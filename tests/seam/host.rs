@@ -7,7 +7,7 @@
 mod tsendrivaty;
 
 use core::mem::{size_of, transmute};
-use tsendrivaty::{At, Burst, Config, EntityId, Events, Handler, Put, Refusal, Remote, SequenceNumber, Timer};
+use tsendrivaty::{At, Burst, Config, Delivery, EntityId, Events, Handler, Put, Received, Refusal, Remote, SequenceNumber, Timer};
 
 const ROOM: usize = 4608;
 /// Enough for any burst.
@@ -207,10 +207,31 @@ impl Host {
         self.put_to((1, 2), Some(unacknowledged), closure, b"a", b"b");
     }
 
-    fn deliver(&mut self, pdu: &[u8]) {
+    fn deliver(&mut self, bytes: &[u8]) {
         let was = self.m.clone();
-        let r = number(self.m.around.h.deliver(pdu));
-        self.line(&was, format!("deliver {r}"), r != 0, 0);
+        let d = self.m.around.h.deliver(bytes);
+        self.line(&was, format!("deliver {} {}", number(d.answer), d.length), d.answer.is_err(), 0);
+    }
+
+    /// The first PDU of a frame; what stands behind it is fill.
+    fn first_of_frame(&mut self, parts: &[&[u8]]) {
+        self.deliver(&parts.concat());
+    }
+
+    /// A received frame: PDU after PDU, and how much is left; beside it the same deliveries, one by one, on a copy of the handler.
+    fn all_of_frame(&mut self, parts: &[&[u8]]) {
+        let (bytes, mut one, mut good) = (parts.concat(), self.m.clone(), true);
+        let (mut left, mut frame) = (&bytes[..], self.m.around.h.deliver_frame(&bytes));
+        while let Some(Received { pdu, answer }) = frame.next() {
+            println!("deliver {} {}", number(answer), pdu.len());
+            good &= one.around.h.deliver(left) == Delivery { answer, length: pdu.len() } && left.starts_with(pdu);
+            left = &left[pdu.len()..];
+            good &= frame.rest() == left;
+        }
+        good &= one.around.h.deliver(left) == Delivery { answer: Err(Refusal::Malformed), length: 0 };
+        good &= frame.next().is_none() && frame.rest() == left;
+        print!("rest {}", left.len());
+        self.ended(good && self.m.kept(&one, true, 0));
     }
 
     fn step_in(&mut self, length: usize, expired: bool, room: usize) {
@@ -258,18 +279,12 @@ impl Host {
         self.line(&was, "reset".into(), false, 0);
     }
 
-    /// A delivery of the transaction 1, `number`, 2 without CRC.
     fn directive(&mut self, number: u8, body: &[u8]) {
-        let n = body.len();
-        self.deliver(&[&[0x28, (n >> 8) as u8, n as u8, 0, 1, number, 2], body].concat());
+        self.deliver(&framed(number, body));
     }
 
     fn nak(&mut self, number: u8, pairs: &[(u32, u32)]) {
-        let mut body = vec![8, 0, 0, 0, 0, 0, 0, 0, 0];
-        for (start, end) in pairs {
-            body.extend([start.to_be_bytes(), end.to_be_bytes()].concat());
-        }
-        self.directive(number, &body);
+        self.deliver(&nak(number, pairs));
     }
 
     fn ack_of_eof(&mut self, number: u8) {
@@ -279,6 +294,24 @@ impl Host {
     fn finished(&mut self, number: u8, values: u8) {
         self.directive(number, &[5, values]);
     }
+}
+
+/// A delivery of the transaction 1, `number`, 2 without CRC.
+fn framed(number: u8, body: &[u8]) -> Vec<u8> {
+    let n = body.len();
+    [&[0x28, (n >> 8) as u8, n as u8, 0, 1, number, 2], body].concat()
+}
+
+fn ack(number: u8) -> Vec<u8> {
+    framed(number, &[6, 0x40, 1])
+}
+
+fn nak(number: u8, pairs: &[(u32, u32)]) -> Vec<u8> {
+    let mut body = vec![8, 0, 0, 0, 0, 0, 0, 0, 0];
+    for (start, end) in pairs {
+        body.extend([start.to_be_bytes(), end.to_be_bytes()].concat());
+    }
+    framed(number, &body)
 }
 
 // ---- runs; make_expected.py has the same
@@ -345,6 +378,56 @@ impl Host {
         self.step_in(5, true, 3);
     }
 
+    /// What stands behind a PDU matters to no answer; each delivery says how many bytes are the PDU's.
+    fn fills(&mut self) {
+        let finished = framed(7, &[5, 2]);
+        self.fresh("fill behind deliveries, and what looks like more of the PDU", 1, 7, 5);
+        self.first_of_frame(&[&ack(7), &[0x55]]);
+        self.put(false, None);
+        self.steps(3, false);
+        self.first_of_frame(&[&nak(7, &[(0, 4), (0, 0)]), &[0; 8]]); // no third pair
+        self.steps(3, false);
+        self.first_of_frame(&[&nak(7, &[(0, 5)]), &[0; 300]]);
+        self.steps(3, false);
+        self.first_of_frame(&[&framed(7, &[6, 0x40]), &[1]]); // not the ACK's third byte
+        self.first_of_frame(&[&framed(7, &[4, 0]), &[0x55; 300]]);
+        self.first_of_frame(&[&ack(8), &[0x55; 3]]);
+        self.first_of_frame(&[&finished, &[0x55; 3]]);
+        self.first_of_frame(&[&nak(7, &[(0, 6)]), &[0x55; 3]]);
+        for n in 0..10 {
+            self.deliver(&ack(7)[..n]); // cut in each place
+        }
+        self.first_of_frame(&[&ack(7), &[0x55; 2]]);
+        self.first_of_frame(&[&finished, &[6]]);
+        self.steps(2, false);
+        // the longest there is: file data with numbers of eight bytes and a data field of 65,535
+        let mut long = vec![1; 70000];
+        long[..4].copy_from_slice(&[0x38, 0xFF, 0xFF, 0x77]);
+        self.deliver(&long[..65563]);
+        self.deliver(&long[..65562]);
+        self.deliver(&long);
+    }
+
+    fn frames(&mut self) {
+        let (finished, keep_alive) = (framed(7, &[5, 2]), framed(7, &[12, 0, 0, 0, 0]));
+        self.fresh("frames: several PDUs, fill behind, refused ones between, a damaged one", 1, 7, 5);
+        self.all_of_frame(&[&[0x55; 5]]);
+        self.all_of_frame(&[]);
+        self.put(false, None);
+        self.steps(4, false);
+        self.all_of_frame(&[&nak(7, &[(0, 5)]), &ack(7), &[0x55; 5]]);
+        self.steps(3, false);
+        self.all_of_frame(&[&[0; 300]]);
+        self.all_of_frame(&[&ack(7), &nak(7, &[(0, 0)]), &ack(8), &nak(7, &[(0, 6)]), &framed(7, &[4]), &keep_alive]);
+        self.steps(2, false);
+        let mut damaged = ack(7); // its version: the Finished behind it is not found
+        damaged[0] ^= 0x40;
+        self.all_of_frame(&[&keep_alive, &damaged, &finished]);
+        self.steps(1, false);
+        self.all_of_frame(&[&finished, &ack(7), &[0xFF; 9]]);
+        self.steps(2, false);
+    }
+
     fn cancels(&mut self) {
         self.fresh("cancel, reset, second put", 1, 255, 5);
         self.cancel(1, 255);
@@ -396,7 +479,9 @@ impl Host {
         self.steps(5, false);
         self.steps(2, true);
         put(self);
-        self.deliver(b"\x2A\x00\x07\x37\x00\x00\x12\x34\x00\x00\x00\x00\x00\x00\x00\x01\x89\xAB\xCD\xEF\x0C\x00\x00\x00\x00\xAA\xB6");
+        let keep_alive = b"\x2A\x00\x07\x37\x00\x00\x12\x34\x00\x00\x00\x00\x00\x00\x00\x01\x89\xAB\xCD\xEF\x0C\x00\x00\x00\x00\xAA\xB6";
+        self.deliver(keep_alive);
+        self.first_of_frame(&[keep_alive, b"\xAA\xB6"]);
         self.steps(1, true);
     }
 
@@ -688,6 +773,10 @@ fn some_pdu(r: &mut Random, b: &[u8]) -> Vec<u8> {
         let at = r.below(pdu.len() as u64) as usize;
         pdu[at] = r.next() as u8;
     }
+    if r.below(2) > 0 {
+        let fill = r.below(100);
+        pdu.extend((0..fill).map(|_| r.next() as u8));
+    }
     pdu
 }
 
@@ -703,7 +792,14 @@ fn one_call(r: &mut Random, m: &mut Memory, b: &[u8], call: u64) -> bool {
                 Err(_) => refused = true,
             }
         }
-        1 => refused = m.around.h.deliver(&some_pdu(r, b)).is_err(),
+        1 => {
+            let bytes = some_pdu(r, b);
+            let d = m.around.h.deliver(&bytes);
+            if (d.length == 0) != (d.answer == Err(Refusal::Malformed)) || d.length > bytes.len() {
+                return false;
+            }
+            refused = d.answer.is_err();
+        }
         2 => {
             let name: Vec<u8> = (0..r.below(300)).map(|_| r.below(128) as u8).collect();
             let destination = EntityId { width: 1 << r.below(5), value: m.around.h.config.remotes[r.below(8) as usize].id.value };
@@ -768,7 +864,8 @@ fn random_delivery(r: &mut Random, h: &mut Handler) {
             nak
         }
     };
-    let _ = h.deliver(&[&[0x28, 0, body.len() as u8, 0, 1, current(h), 2], &body[..]].concat());
+    let fill = vec![0x28; r.below(50) as usize];
+    let _ = h.deliver(&[framed(current(h), &body), fill].concat());
 }
 
 fn random_put(r: &mut Random, h: &mut Handler) -> usize {
@@ -820,6 +917,8 @@ pub extern "C" fn main(_: i32, _: *const *const u8) -> i32 {
     host.byte_cases();
     host.acknowledged();
     host.refusals();
+    host.fills();
+    host.frames();
     host.cancels();
     host.wide();
     host.bursts();

@@ -32,7 +32,7 @@ def short(digits):
 
 class Host:
     def __init__(self, label, number, size, file=FILE):
-        self.run, self.size = Run(label, number, file, []), size
+        self.run, self.size, self.rests = Run(label, number, file, []), size, set()
         self.entry = Entry((1, 2), packet=17, segment=4, limit=2)
         self.config = dict(local=(1, 1), actions=[1] * 16, entries=[self.entry])
 
@@ -58,10 +58,20 @@ class Host:
         self.burst_in(self.size, expired, count, FRAME)
 
     def directive(self, number, body):
-        self.call('deliver', Header((1, 1), (1, number), (1, 2), to_sender=True).to_bytes(body))
+        self.call('deliver', framed(number, body))
 
     def nak(self, number, *pairs):
-        self.directive(number, b'\x08' + bytes(8) + b''.join(be(4, v) for pair in pairs for v in pair))
+        self.call('deliver', nak(number, *pairs))
+
+    def first_of_frame(self, *parts):
+        """Its first PDU; what stands behind it is fill."""
+        self.call('deliver', b''.join(parts))
+
+    def all_of_frame(self, pdus, rest):
+        """The frame from each of the PDUs on, and then what is left, which must be Malformed."""
+        for k in range(len(pdus) + 1):
+            self.call('deliver', b''.join(pdus[k:]) + rest)
+        self.rests.add(len(self.run.calls) - 1)
 
     def ack_of_eof(self, number):
         self.directive(number, b'\x06\x40\x01')
@@ -86,9 +96,24 @@ class Host:
 
     def done(self):
         lines.append('== ' + self.run.label)
-        for call, answer in zip(self.run.calls, answers(self.run)):
+        for k, (call, answer) in enumerate(zip(self.run.calls, answers(self.run))):
             line = call_line(call) if call[0] == 'lend' else answer_line(answer)
+            if k in self.rests:
+                assert line == 'deliver 20 0', line
+                line = 'rest %d' % len(call[1])
             lines.append(re.sub(r'\b[0-9a-f]{129,}\b', short, line))
+
+
+def framed(number, body):
+    return Header((1, 1), (1, number), (1, 2), to_sender=True).to_bytes(body)
+
+
+def ack(number):
+    return framed(number, b'\x06\x40\x01')
+
+
+def nak(number, *pairs):
+    return framed(number, b'\x08' + bytes(8) + b''.join(be(4, v) for pair in pairs for v in pair))
 
 
 def byte_cases():
@@ -151,6 +176,54 @@ def refusals():
     h.done()
 
 
+def fills():
+    h = Host('fill behind deliveries, and what looks like more of the PDU', (1, 7), 5)
+    finished = framed(7, b'\5\2')
+    h.first_of_frame(ack(7), b'\x55')
+    h.put(False)
+    h.steps(3, 0)
+    h.first_of_frame(nak(7, (0, 4), (0, 0)), bytes(8))
+    h.steps(3, 0)
+    h.first_of_frame(nak(7, (0, 5)), bytes(300))
+    h.steps(3, 0)
+    h.first_of_frame(framed(7, b'\6\x40'), b'\1')
+    h.first_of_frame(framed(7, b'\4\0'), b'\x55' * 300)
+    h.first_of_frame(ack(8), b'\x55' * 3)
+    h.first_of_frame(finished, b'\x55' * 3)
+    h.first_of_frame(nak(7, (0, 6)), b'\x55' * 3)
+    for n in range(10):
+        h.first_of_frame(ack(7)[:n])
+    h.first_of_frame(ack(7), b'\x55' * 2)
+    h.first_of_frame(finished, b'\6')
+    h.steps(2, 0)
+    long = b'\x38\xff\xff\x77' + b'\1' * 69996
+    for n in (65563, 65562, 70000):
+        h.first_of_frame(long[:n])
+    assert [a[1:] for a in answers(h.run) if a[0] == 'deliver'] == [(22, 10), (0, 32), (0, 24), (20, 0), (21, 9), (23, 10), (22, 9), (24, 24)] + [(20, 0)] * 10 + [
+        (0, 10), (0, 9), (21, 65563), (20, 0), (21, 65563)]
+    h.done()
+
+
+def frames():
+    h = Host('frames: several PDUs, fill behind, refused ones between, a damaged one', (1, 7), 5)
+    finished, keep_alive = framed(7, b'\5\2'), framed(7, b'\x0c' + bytes(4))
+    h.all_of_frame([], b'\x55' * 5)
+    h.all_of_frame([], b'')
+    h.put(False)
+    h.steps(4, 0)
+    h.all_of_frame([nak(7, (0, 5)), ack(7)], b'\x55' * 5)
+    h.steps(3, 0)
+    h.all_of_frame([], bytes(300))
+    h.all_of_frame([ack(7), nak(7, (0, 0)), ack(8), nak(7, (0, 6)), framed(7, b'\4'), keep_alive], b'')
+    h.steps(2, 0)
+    h.all_of_frame([keep_alive], b'\x68' + ack(7)[1:] + finished)
+    h.steps(1, 0)
+    h.all_of_frame([finished, ack(7)], b'\xff' * 9)
+    h.steps(2, 0)
+    assert [a[1:] for a in answers(h.run) if a[0] == 'deliver' and a[1] != 20] == [(0, 24), (0, 10), (22, 10), (0, 24), (23, 10), (24, 24), (21, 8), (0, 12), (0, 12), (0, 9), (22, 10)]
+    h.done()
+
+
 def cancels():
     h = Host('cancel, reset, second put', (1, 255), 5)
     h.cancel(1, 255)
@@ -193,6 +266,7 @@ def wide():
     pdu = Header((4, 0x1234), (8, 1), to, crc=True, to_sender=True).to_bytes(b'\x0c' + bytes(4))
     assert pdu.hex() == KEEP_ALIVE, pdu.hex()
     h.call('deliver', pdu)
+    h.first_of_frame(pdu, pdu[-2:])
     h.steps(1, 255)
     h.done()
 
@@ -408,7 +482,7 @@ def changed_with(label, checksum):
 KEEP_ALIVE = '2a00073700001234000000000000000189abcdef0c00000000aab6'     # as the hosts have it
 
 if __name__ == '__main__':
-    for run in byte_cases, acknowledged, refusals, cancels, wide, bursts, short_bursts, bursts_with_expiry, long_bursts, changed_files:
+    for run in byte_cases, acknowledged, refusals, fills, frames, cancels, wide, bursts, short_bursts, bursts_with_expiry, long_bursts, changed_files:
         run()
     for name, checksum in (('modular', 0), ('CRC-32C', 2), ('CRC-32', 3), ('no checksum', 15)):
         changed_with('another file of the same length, ' + name, checksum)

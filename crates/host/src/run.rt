@@ -60,7 +60,7 @@ fn put_call(s: State, calls: &[u8], at: usize, answers: &mut [u8], put: usize) -
     stopped(t, end, p, 0)
 }
 
-// Kind 2: a delivery behind four bytes of length.
+// Kind 2: a delivery behind four bytes of length. Behind the answer stands, in four bytes, how many of the delivered bytes are the PDU's.
 fn deliver_call(s: State, calls: &[u8], at: usize, answers: &mut [u8], put: usize) -> Turn {
     if !read::whole(calls, at, 4) {
         return stopped(s, at, put, 2);
@@ -72,9 +72,11 @@ fn deliver_call(s: State, calls: &[u8], at: usize, answers: &mut [u8], put: usiz
     }
     let d = source::deliver(s, part_of(calls, from, n));
     let a = d.answer;
+    let k = d.length;
     let t = d.state;
     let p = add_answer(answers, put, 2, a);
-    stopped(t, read::on(from, n), p, 0)
+    let q = write::add(answers, p, 4, k as u64);
+    stopped(t, read::on(from, n), q, 0)
 }
 
 // Kind 3: the expiry flag, four bytes of lent length, four of the out buffer's.

@@ -25,6 +25,22 @@ fn hex(s: &[u8]) {
     }
 }
 
+// How many of the delivered bytes are the PDU's; the Rust tells none.
+fn belonging(s: &[u8], at: usize, ids: Ids) {
+    match ids {
+        Ids::Tagged => number(s, at, 4),
+        Ids::ByValue => {}
+    }
+}
+
+fn delivered(s: &[u8], at: usize, ids: Ids) -> usize {
+    io::write_all(1, b"  deliver");
+    number(s, at, 1);
+    belonging(s, on(at, 1), ids);
+    io::write_all(1, b"\n");
+    on(at, 5)
+}
+
 fn refusal(name: &[u8], s: &[u8], at: usize) -> usize {
     io::write_all(1, name);
     number(s, at, 1);
@@ -146,7 +162,7 @@ fn line(s: &[u8], at: usize, ids: Ids) -> usize {
     let body = on(at, 1);
     match byte_at(s, at) {
         1 => refusal(b"  put", s, body),
-        2 => refusal(b"  deliver", s, body),
+        2 => delivered(s, body, ids),
         3 => stepped(s, body, ids),
         4 => cancelled(s, body),
         5 => {

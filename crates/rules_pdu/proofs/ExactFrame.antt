@@ -123,11 +123,11 @@ read-as-it-stands s y f body fill p =
 
 -- what the tests say
 pub record Tests (s : List ℕ) : Type 0 where
-  long : 4 ≤ length s
+  pub long : 4 ≤ length s
   version : versionIn s ≡ 1
   id-width : goodWidth (idWidthIn s) ≡ true
   seq-width : goodWidth (seqWidthIn s) ≡ true
-  whole : endIn s ≤ length s
+  pub whole : endIn s ≤ length s
   checks : crcIn s ≡ true → (2 ≤ lengthIn s) × (crcAgrees s ≡ true)
 
 pub tests : (s : List ℕ) → wellFramed s ≡ true → Tests s

@@ -73,7 +73,7 @@ bytes-before {s} i n {fs} p = record { holds = sym (take-append-drop n (drop i s
 byte-before : (s : List ℕ) → Bytes s → (i : ℕ) → i + 1 ≤ length s → (fs : List Field) → At s (i + 1) fs → At s i (nat 1 (byte s i) ∷ fs)
 byte-before s y i l fs p = rw (byte-num s i) (number-before s y i 1 l p)
 
-byte-small : (s : List ℕ) (i : ℕ) → Bytes s → byte s i < 256
+pub byte-small : (s : List ℕ) (i : ℕ) → Bytes s → byte s i < 256
 unfolding byte
 byte-small [] i y = omega arith
 byte-small (b ∷ s) zero y = y .0

@@ -8,4 +8,5 @@ pub mod Routed
 pub mod Unjudged
 pub mod ExactFrame
 pub mod ExactSaid
+pub mod Own
 pub mod Numbers

@@ -1,6 +1,6 @@
 -- Reading what was written gives it back: each field stands at its place, so the header is read first, then the frame, then each body.
 -- Assumes nothing.
-use mathlib.Core.Path.{_≡_, refl, sym, ap, _∙_}
+use mathlib.Core.Path.{_≡_, refl, sym, ap, ap₂, _∙_}
 use mathlib.Core.Logic.{_⊎_, inl, inr}
 use mathlib.Core.Bool.{Bool, true, false, false≢true}
 use mathlib.Core.List.{List, [], _∷_, _++_, append-assoc, append-nil}
@@ -200,6 +200,13 @@ unfolding trailer
 crc-over bs fill true e = let t = two-behind bs (crc16 bs) fill (crc16-lt bs) in t .1 ∙ ap crc16 (sym (t .0))
 crc-over bs fill false e = absurd (false≢true e)
 
+-- tests one behind the other
+also-true : (a b : Bool) → a ≡ true → b ≡ true → (a and b) ≡ true
+also-true a b e f = rw (e, f)
+
+long-enough : (n k : ℕ) (b : Bool) → k ≤ n → b ≡ true → (not (ltb n k) and b) ≡ true
+long-enough n k b l f = let e = le-ltb n k l in rw (e, f)
+
 -- bytes that are a PDU with fill behind it: header, body, and the CRC over what stands before it
 pub record Frames (s : List ℕ) (h : Head) (filedata tosender : Bool) (body fill : List ℕ) : Type 0 where
   pub front : List ℕ
@@ -237,8 +244,8 @@ module _ {s : List ℕ} {h : Head} {filedata tosender : Bool} {body fill : List 
   pub body-read : bodyIn s ≡ body
   unfolding bodyIn
   body-read =
-      let e : H h + length body - H h ≡ length body = omega arith in
-      rw (body-end-read, h-read (p .opens), e) (part-at (behind-head (p .opens)))
+      let e : bodyEnd s - hIn s ≡ length body = rw (body-end-read, h-read (p .opens)) (omega arith) in
+      ap₂ (part s) (h-read (p .opens)) e ∙ part-at (behind-head (p .opens))
 
   crc-agrees : h .crc ≡ true → crcAgrees s ≡ true
   unfolding crcAgrees
@@ -246,21 +253,28 @@ module _ {s : List ℕ} {h : Head} {filedata tosender : Bool} {body fill : List 
       let c = ap C e in
       let l = front-length in
       let n : endIn s - 2 ≡ length (p .front) = rw end-read (omega (arith, c, l)) in
-      rw n (eq-eqb _ _ (rw (p .closes) at (crc-over (p .front) fill (h .crc) e)))
+      eq-eqb (numAt s (endIn s - 2) 2) (crc16 (take (endIn s - 2) s)) (rw n (rw (p .closes) at (crc-over (p .front) fill (h .crc) e)))
 
-  pub well-framed-read : wellFramed s ≡ true
-  unfolding wellFramed crcGood
-  well-framed-read =
-      let w = whole in
-      let a : ltb (length s) 4 ≡ false = le-ltb (length s) 4 (omega arith) in
-      let i = ap goodWidth (id-width-read (p .opens)) ∙ p .opens .fit .id-width in
-      let q = ap goodWidth (seq-width-read (p .opens)) ∙ p .opens .fit .seq-width in
-      let r : ltb (length s) (endIn s) ≡ false = le-ltb (length s) (endIn s) (rw end-read (omega (arith, w))) in
-      simp (a, eq-eqb _ _ (version-read (p .opens)), i, q, r, crc-read (p .opens))
+  -- with the CRC flag there is room for the CRC, and it agrees
+  crc-good : crcGood s ≡ true
+  unfolding crcGood
+  crc-good =
+      rw (crc-read (p .opens))
       (wherever (h .crc) (not (ltb (lengthIn s) 2) and crcAgrees s)
       (λ c. let z = ap C c in
       let b : ltb (lengthIn s) 2 ≡ false = rw length-read (le-ltb (length body + C (h .crc)) 2 (omega arith)) in
       rw (b, crc-agrees c) refl))
+
+  pub well-framed-read : wellFramed s ≡ true
+  unfolding wellFramed
+  well-framed-read =
+      let w = whole in
+      let e = end-read in
+      long-enough (length s) _ _ (omega (arith, w))
+      (also-true (eqb (versionIn s) 1) _ (eq-eqb _ _ (version-read (p .opens)))
+      (also-true (goodWidth (idWidthIn s)) _ (ap goodWidth (id-width-read (p .opens)) ∙ p .opens .fit .id-width)
+      (also-true (goodWidth (seqWidthIn s)) _ (ap goodWidth (seq-width-read (p .opens)) ∙ p .opens .fit .seq-width)
+      (long-enough (length s) _ _ (omega (arith, w, e)) crc-good))))
 
 -- ---- what we write is a PDU
 
@@ -402,7 +416,7 @@ pub read-back : (h : Head) (m : Said) → Fit h → Sayable h m → decode (enco
 read-back h m f y = round-trip h m f y .alone
 
 pub nothing-read : decode [] ≡ none
-unfolding decode lengthIn idWidthIn seqWidthIn byte numAt part num
+unfolding decode decodeFirst wellFramed lengthIn idWidthIn seqWidthIn byte numAt part num
 nothing-read = refl
 
 pub same-bytes : SameBytes

@@ -104,6 +104,16 @@ fn said(k: u64, a: Answer) {
     }
 }
 
+// Says what stands behind the PDU, the first `own` of n bytes.
+fn said_fill(k: u64, own: usize, n: usize) {
+    if own == 0 {
+        return;
+    }
+    if own < n {
+        tell::fill(k, (n - own) as u64, n as u64);
+    }
+}
+
 // The pass with an answer more.
 fn with_answer(t: Pass, s: State, at: usize, k: u64) -> Pass {
     let mut v = t;
@@ -122,6 +132,7 @@ fn answered(t: Pass, s: State, answers: &[u8], o: Output) -> Pass {
     let next = d.state;
     let k = plus(t.delivered, 1);
     said(k, a);
+    said_fill(k, d.length, pdu.len());
     if shown(o, pdu, a) {
         let more = with_answer(t, next, next_frame(answers, at), k);
         return kept(more, passed(t), pdu, o);

@@ -81,6 +81,24 @@ pub fn refused(what: &[u8], k: u64, r: Refusal) {
     line(part_of(&out, 0, n));
 }
 
+fn fill_text(out: &mut [u8], k: u64, behind: u64, all: u64) -> usize {
+    let p = numbers(out, 0, b"send: answer #: ", k, 0);
+    numbers(
+        out,
+        p,
+        b"# of its # bytes stand behind the PDU and are fill\n",
+        behind,
+        all,
+    )
+}
+
+// Of answer k so many bytes stand behind the PDU.
+pub fn fill(k: u64, behind: u64, all: u64) {
+    let mut out = [0u8; 128];
+    let n = fill_text(&mut out, k, behind, all);
+    line(part_of(&out, 0, n));
+}
+
 // ---- events
 
 fn action(out: &mut [u8], at: usize, a: u8) -> usize {

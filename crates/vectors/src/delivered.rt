@@ -97,34 +97,52 @@ fn meaning_vector(delivery: &[u8], f: Frame, m: Meaning, s: &[u8], at: usize) ->
     }
 }
 
+// How many bytes are the PDU's, held to the three bytes of the vector at a place.
+fn length_agrees(n: usize, s: &[u8], at: usize) -> bool {
+    n as u64 == basis::fields::num_at(s, at, 3)
+}
+
+// A delivery without a meaning: the number, and the answer behind it.
+fn refused(answer: u8, n: usize, s: &[u8], at: usize) -> Ran {
+    let next = take::on(at, 4);
+    if byte_at(s, take::on(at, 3)) != answer {
+        return Ran {
+            ok: false,
+            next: next,
+        };
+    }
+    Ran {
+        ok: length_agrees(n, s, at),
+        next: next,
+    }
+}
+
+fn accepted(delivery: &[u8], f: Frame, m: Meaning, s: &[u8], at: usize) -> Ran {
+    if byte_at(s, take::on(at, 3)) != 0 {
+        return Ran {
+            ok: false,
+            next: 1000000,
+        };
+    }
+    let r = meaning_vector(delivery, f, m, s, take::on(at, 4));
+    if length_agrees(f.length, s, at) {
+        return r;
+    }
+    Ran {
+        ok: false,
+        next: r.next,
+    }
+}
+
 pub fn delivery_vector(s: &[u8], at: usize) -> Ran {
     let delivery = take::blob(s, at);
     let e = take::past(s, at);
-    let want = byte_at(s, e);
-    let next = take::on(e, 1);
     match pdu_read::header::read_header(delivery) {
-        Framed::Malformed => Ran {
-            ok: want == 20,
-            next: next,
-        },
+        Framed::Malformed => refused(20, 0, s, e),
         Framed::Whole(f) => match pdu_read::directive::read_body(delivery, f) {
-            Body::Malformed => Ran {
-                ok: want == 20,
-                next: next,
-            },
-            Body::CantProcess => Ran {
-                ok: want == 21,
-                next: next,
-            },
-            Body::Means(m) => {
-                if want != 0 {
-                    return Ran {
-                        ok: false,
-                        next: 1000000,
-                    };
-                }
-                meaning_vector(delivery, f, m, s, next)
-            }
+            Body::Malformed => refused(20, 0, s, e),
+            Body::CantProcess => refused(21, f.length, s, e),
+            Body::Means(m) => accepted(delivery, f, m, s, e),
         },
     }
 }
