@@ -216,6 +216,7 @@ length-exactly s bytes = go (isMalformed (saidIn bytes)) refl
           malformed = λ q. z;
           other = λ q. absurd (q (rw (answered s bytes) (first-line s bytes (saidIn bytes) e)));
           bounded = λ y. rw z (omega arith);
+          stateless = λ t. reported t bytes ∙ sym (reported s bytes);
         }
     go false e =
         let c = came s bytes e in
@@ -224,6 +225,7 @@ length-exactly s bytes = go (isMalformed (saidIn bytes)) refl
           malformed = λ q. absurd (other-line s bytes (saidIn bytes) e (rw (answered s bytes) at q));
           other = λ q. (z, rw (c .0) (c .1));
           bounded = λ y. let a = byte-small bytes 1 y in let b = byte-small bytes 2 y in rw z (omega (arith, a, b));
+          stateless = λ t. reported t bytes ∙ sym (reported s bytes);
         }
 
 -- ---- the next PDU

@@ -16,11 +16,13 @@ ownLength s = 4 + 2 * (byte s 3 / 16 % 8 + 1) + (byte s 3 % 8 + 1) + (byte s 1 *
 
 -- ---- the number
 
--- PROMISE length-exactly: a delivery reports 0 exactly if it is Malformed; else, refused or not, what its header's bytes say, which came wholly, and is at most 65,563.
+-- PROMISE length-exactly: a delivery reports 0 exactly if it is Malformed; else, refused or not, what its header's bytes say, which came wholly, and is at most 65,563. The bytes
+-- alone decide it.
 pub record LengthExactly (s : State) (bytes : List ℕ) : Type 0 where
   pub malformed : answerNo (deliverSpec s bytes .answer) ≡ 20 → deliverSpec s bytes .length ≡ 0
   pub other : (¬ (answerNo (deliverSpec s bytes .answer) ≡ 20)) → (deliverSpec s bytes .length ≡ ownLength bytes) × (ownLength bytes ≤ length bytes)
   pub bounded : Bytes bytes → deliverSpec s bytes .length ≤ 65563
+  pub stateless : (t : State) → deliverSpec t bytes .length ≡ deliverSpec s bytes .length
 
 abbrev pub LengthsExactly : Type 0
 LengthsExactly = (s : State) (bytes : List ℕ) → LengthExactly s bytes

@@ -1,4 +1,4 @@
--- Each call's relation determines its outcome: the answer, the whole new state, the events, and every byte of the out buffer. Proof: proofs/OneOutcome.antt.
+-- Each call's relation determines its outcome: the answer, the whole new state, the events, every byte of the out buffer, and a delivery's number. Proof: proofs/OneOutcome.antt.
 -- Assumes nothing.
 use mathlib.Core.Path.{_≡_}
 use mathlib.Core.Bool.{Bool}

@@ -1,5 +1,5 @@
 -- What follows from the layouts and their readings: reading what was written gives its meaning back.
--- The other way round, only what was written is read. Proofs: proofs/Round.antt, Writes.antt, Heard.antt, ExactBody.antt, Routed.antt, ExactFrame.antt, ExactSaid.antt.
+-- The other way round, only what was written is read. Proofs: proofs/Round.antt, Writes.antt, Heard.antt, ExactBody.antt, Routed.antt, ExactFrame.antt, ExactSaid.antt, Own.antt.
 -- Assumes nothing.
 use mathlib.Core.Path.{_≡_}
 use mathlib.Core.Logic.{_↔_, _⊎_}

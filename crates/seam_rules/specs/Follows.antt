@@ -21,7 +21,7 @@ use Rattle.seam_rules.specs.declared.memory.Handler.{Handler}
 -- ---- each call on the memory is the call on the state in it
 
 -- PROMISE memory-follows: the code is the answer's number, and the state in the memory after a call is the one that the call's definition makes of the
--- state in the memory before; so what is proved of the definitions holds of the memory.
+-- state in the memory before; a delivery's own report has its number. So what is proved of the definitions holds of the memory.
 pub record MemoryFollows : Type 0 where
   pub new : (h : Handler) (width number : ℕ) → (newDone h width number .code ≡ 0) × (stateOf (newDone h width number .held) ≡ newSpec (width, number))
   pub put : (h : Handler) (width entity unacknowledged closure : ℕ) (source destination : List ℕ) (size : ℕ)
@@ -49,7 +49,7 @@ pub record MemoryFollows : Type 0 where
 -- ---- a refusal
 
 -- PROMISE memory-untouched: a refused call leaves every number of the memory as it was, the report of an earlier step too; a refused step or burst every byte of
--- the out buffer, and a refused burst its own report.
+-- the out buffer, and a refused burst its own report. (A delivery's own report is written on a refusal too: memory-follows.)
 pub record MemoryUntouched : Type 0 where
   pub put : (h : Handler) (width entity unacknowledged closure : ℕ) (source destination : List ℕ) (size : ℕ)
       → let d = putDone h width entity unacknowledged closure source destination size in (¬ (d .code ≡ 0)) → d .held ≡ h
