@@ -93,7 +93,8 @@ def some_pair(rng, t, wrong):
 
 
 def some_pdu(rng, t):
-    """(header, bytes); a few are cut, or have a wrong bit, or a data field length that is not theirs, and then the CRC, if any, stands where the delivery ends."""
+    """(header, bytes, what the body lacks); a few are cut, or have a wrong bit, or a data field length that is not theirs, and then the CRC, if any, stands where the
+    delivery ends."""
     if t is None or rng.random() < 0.04:
         h = Header(some_id(rng), some_id(rng), some_id(rng))
     else:
@@ -123,15 +124,16 @@ def some_pdu(rng, t):
         body = b'\x0c' + be(h.F, rng.randrange(300))
     else:
         body = be(1, rng.choice([4, 7, 9, 0, 10, 11, 13, 255])) + rng.randbytes(rng.randrange(9))
-    if rng.random() < 0.03:
-        body = rng.choice([body[:-1], body + b'\0', b''])
+    whole = body
+    if rng.random() < 0.05:
+        body = rng.choice([body[:-1], body[:rng.randrange(len(body))], body + b'\0', b''])
     length = max(len(body) + h.C + rng.choice([-1, 1, 2]), 0) if rng.random() < 0.03 else None
     pdu = bytearray(h.to_bytes(body, file_data=rng.random() < 0.01, length=length))
     if rng.random() < 0.05:
         pdu[rng.randrange(len(pdu))] ^= 1 << rng.randrange(8)
     if rng.random() < 0.01:
         del pdu[rng.randrange(len(pdu)):]
-    return h, bytes(pdu)
+    return h, bytes(pdu), whole[len(body):]
 
 
 def some_fill(rng, t, h, pdu):
@@ -142,7 +144,10 @@ def some_fill(rng, t, h, pdu):
 
 
 def some_delivery(rng, t):
-    h, pdu = some_pdu(rng, t)
+    """A PDU, often with fill; what its body lacks, if anything, may stand behind it."""
+    h, pdu, lacks = some_pdu(rng, t)
+    if lacks and rng.random() < 0.5:
+        return 'deliver', pdu + lacks
     return 'deliver', pdu + (some_fill(rng, t, h, pdu) if rng.random() < 0.4 else b'')
 
 

@@ -362,7 +362,7 @@ pub struct Frame<'h, 'f> {
 }
 
 impl<'f> Frame<'_, 'f> {
-    /// The bytes behind the PDUs that were taken. After the end, if it is not the fill that you know, something was damaged.
+    /// The bytes behind the PDUs that were given. After the end, if it is not the fill that you know, something was damaged.
     pub fn rest(&self) -> &'f [u8] {
         self.rest
     }
