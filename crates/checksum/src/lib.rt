@@ -1,6 +1,8 @@
 // The checksums of filestore.rs over bytes that are lent, and the CRC-16 that closes a PDU: each equal to its definition in `rules_leaves`.
 // They are total: any type, any bytes, any number of bytes asked for. A finished number goes on over more bytes (sum_on).
 // After cfdp-rs 0.3.0, src/filestore.rs (Apache-2.0); changed, see NOTICE.
+#![tactic(auto)]
+
 mod tables;
 
 ghost use Rattle.std.specs.Prelude.{◌≡◌, take};

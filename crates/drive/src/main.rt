@@ -1,5 +1,7 @@
 // Runs a list of calls from standard input and writes the answers to standard output: four bytes of the file's length, the file, then the list
 // as docs/HOST.md has it. Input of more than 65,536 bytes is cut there.
+#![tactic(auto)]
+
 use pdu_read::field::part_of;
 
 fn main() {

@@ -1,5 +1,7 @@
 // A list of calls, given as bytes, run on a fresh handler; every answer, emitted PDU and event goes into a lent buffer. For a test host in C or
 // Rust, and for the program `drive`. docs/HOST.md has the format of both.
+#![tactic(auto)]
+
 mod read;
 mod run;
 mod write;

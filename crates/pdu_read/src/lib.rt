@@ -1,4 +1,6 @@
 // A delivery read: its header, then the body that its directive code picks, one module for each.
+#![tactic(auto)]
+
 mod ack;
 mod condition;
 pub mod directive;

@@ -1,5 +1,7 @@
 // Runs stored lists of calls, each on a fresh handler, and prints every answer: one line a call, and one for each step of a burst. tests/stream.py has the format of the stream. For the
 // programs `passes` and `beside_rust`, which differ in where the runs and what must be printed come from.
+#![tactic(auto)]
+
 mod say;
 mod take;
 

@@ -1,6 +1,8 @@
 // The sending handler for C: one handler in memory that the host lends. Each function copies the memory out, makes the call on values, and
 // stores what comes of it; a refusal stores what was there. A step and a delivery go in two parts, so that no more is stored than what they change (modules
 // `step`, `deliver`); a burst makes its steps on the memory as a value (modules `burst`, `piece`); the other calls are in module `calls`, what lies between memory and values in `taken`, `stored` and `events`. Every bit pattern of the memory is a handler, so nothing is asked of the host but the pointers.
+#![tactic(auto)]
+
 mod burst;
 mod calls;
 mod deliver;

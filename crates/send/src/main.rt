@@ -1,4 +1,6 @@
 // Puts a file on the link: `send FILE [word=value ..]` writes the PDUs that carry it. docs/SEND.md has the words and the framing.
+#![tactic(auto)]
+
 mod capture;
 mod command;
 mod files;

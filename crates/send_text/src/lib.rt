@@ -1,4 +1,6 @@
 // The words of the command line, and what the program `send` says.
+#![tactic(auto)]
+
 pub mod code;
 mod decimal;
 pub mod list;

@@ -5,6 +5,8 @@
 // if Q"; `⊥` what never holds; `a ≡ b` "a equals b". `x.f` is the field f of x, `p.0` and `p.1` are the parts of a pair. `[]` is the empty list, `x ∷ l` one that begins with x, `l ++ m` both joined, `map f l` f of
 // each. In a contract `λ r.` names the result, `⌜ P ⌝` is the fact P, and `now x.entry` and `now x.exit` are the bytes behind x when the call begins and when it ends.
 // After cfdp-rs 0.3.0, src/source.rs (Apache-2.0); changed, see NOTICE.
+#![tactic(auto)]
+
 pub mod answers;
 
 ghost use Rattle.std.specs.Prelude.{◌≡◌};

@@ -1,6 +1,8 @@
 // A delivery: what the bytes say, then what the table of steps answers. Any state and any bytes are taken. The refusals are tried in
 // the order 20, 21, 23, 22, 24, 25, and a refused delivery changes nothing; refused or not, it is told how many of the bytes are the PDU's.
 // After cfdp-rs 0.3.0, src/source.rs (Apache-2.0); changed, see NOTICE.
+#![tactic(auto)]
+
 pub mod effect;
 mod nak;
 mod table;

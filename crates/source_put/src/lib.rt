@@ -1,5 +1,7 @@
 // Put: refusals 1 to 8 in checking order, or the state anew. Any state, configuration and request is taken; a refusal changes nothing.
 // After cfdp-rs 0.3.0, src/source.rs (Apache-2.0); changed, see NOTICE.
+#![tactic(auto)]
+
 mod config;
 mod names;
 mod numbers;

@@ -1,5 +1,7 @@
 // Pending requests: 64 places, the oldest in front. Served places are free again. What a NAK adds is in module `nak`.
 // After cfdp-rs 0.3.0, src/source.rs (Apache-2.0); changed, see NOTICE.
+#![tactic(auto)]
+
 pub mod nak;
 
 ghost use Rattle.std.specs.Prelude.{◌≡◌, [], ◌∷◌, ◌++◌, ◌-◌, drop};

@@ -1,5 +1,7 @@
 // The handler's state: its groups changed one at a time, the steps told apart, and Idle. An enum field is never stored to: `to_step` makes the state anew.
 // After cfdp-rs 0.3.0, src/source.rs (Apache-2.0); changed, see NOTICE.
+#![tactic(auto)]
+
 ghost use Rattle.std.specs.Prelude.{◌≡◌};
 ghost use Rattle.rules.specs.States.{is_idle, to_step, with_marks, counted, idle, empty_queue, no_fixed, no_names, no_file, no_marks};
 ghost use Rattle.rules.specs.Step.{onward, awaiting, fault_marked};

@@ -1,6 +1,8 @@
 // A step of the sender with its faults, a burst of steps, the user's cancel, reset and a new handler: each call equal to its definition in `rules`.
 // A step decides what is due, then has its PDU written, and only then makes the new state, so that a refusal changes nothing.
 // After cfdp-rs 0.3.0, src/source.rs (Apache-2.0); changed, see NOTICE.
+#![tactic(auto)]
+
 pub mod after;
 pub mod bulk;
 mod cancelling;

@@ -1,5 +1,6 @@
 // The types that document 01 speaks of. What is right of them is said in `rules` and `rules_pdu`; no code runs here.
 // After cfdp-rs 0.3.0, src/source.rs and src/lib.rs (Apache-2.0); changed, see NOTICE.
+#![tactic(auto)]
 
 // ---- Numbers
 

@@ -1,5 +1,7 @@
 // UTF-8 by RFC 3629, one byte at a time. What each state stands for is said in specs/ by the ranges that the grammar (`rules_leaves`, Utf8) still wants there,
 // and each step is proved to be the grammar's.
+#![tactic(auto)]
+
 ghost use Rattle.std.specs.Prelude.{◌≡◌};
 ghost use Rattle.basis.specs.Pick.{pick};
 ghost use Rattle.rules_leaves.specs.Utf8.{◌to◌, forms, within, broken, begun, onward, complete, is_utf8};
