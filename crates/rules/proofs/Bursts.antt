@@ -31,8 +31,8 @@ use Rattle.types.specs.declared.Answer.TheVariants.{Accepted, Refused}
 use Rattle.basis.proofs.Pick.{cases}
 use Rattle.rules.proofs.Outcomes.{differ}
 use Rattle.rules.proofs.Tells.{tells_idle}
-use Rattle.rules.proofs.Exactly.{step-exactly, numbered, none_made}
-use Rattle.rules.proofs.Singly.{made_in, burst-one-by-one, burst-keeps}
+use Rattle.rules.proofs.Exactly.{step-exactly, numbered, none_made_lem}
+use Rattle.rules.proofs.Singly.{made_in_lem, burst-one-by-one, burst-keeps}
 
 -- ---- how many
 
@@ -157,7 +157,7 @@ pub burst-is-steps : BurstIsSteps
 unfolding burst_outcome in_places
 burst-is-steps s file expired count out a =
     let k = counted s file expired count (length out) a in
-    let m = made_in s file expired count (length out) in
+    let m = made_in_lem s file expired count (length out) in
     let rs = steps_of (allowed count) s file expired (length out) in
     record {
       same = burst-one-by-one s file expired count out;
@@ -238,7 +238,7 @@ start_settled s file expired count room g l = go (is_idle s.step) refl (eqb (len
     go false e true f = inl (sym (eqb-true (length file) s.fixed.size f))
     go false e false f =
         let k = (step-exactly s file expired room).0.1 (((tells_idle s.step).no e, eqb-false (length file) s.fixed.size f), tt) in
-        let z = ap length (none_made (allowed count) s file expired room (λ h. omega (arith, k, h))) in
+        let z = ap length (none_made_lem (allowed count) s file expired room (λ h. omega (arith, k, h))) in
         absurd (omega (arith, z, l))
 
 pub burst-not-changed : BurstNotChanged
