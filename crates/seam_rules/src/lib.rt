@@ -8,14 +8,14 @@ pub mod memory;
 use crate::memory::{BurstReport, DeliverReport, Handler};
 
 // What a call returns and what is stored.
-#[derive(Drop)]
+#[derive(Clone, Copy)]
 pub struct Done {
     pub code: u32,
     pub held: Handler,
 }
 
 // Of a delivery, which has a report of its own, on a refusal too.
-#[derive(Drop)]
+#[derive(Clone, Copy)]
 pub struct DeliverDone {
     pub code: u32,
     pub held: Handler,
@@ -23,7 +23,7 @@ pub struct DeliverDone {
 }
 
 // Of a burst, which has a report of its own.
-#[derive(Drop)]
+#[derive(Clone, Copy)]
 pub struct BurstDone {
     pub code: u32,
     pub held: Handler,

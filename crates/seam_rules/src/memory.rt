@@ -5,7 +5,7 @@ use types::{EntityId, FileParams, FinishedParams, Names, Queue, TransactionSeqNu
 
 // An entry of the table of remote entities. Here and below a flag is a byte: 0 is clear, any other is set.
 #[repr(C)]
-#[derive(Drop)]
+#[derive(Clone, Copy)]
 pub struct Remote {
     pub id: EntityId,
     pub maxpacket: u64,
@@ -19,7 +19,7 @@ pub struct Remote {
 
 // Written by the host; no function changes it, and only a put reads it.
 #[repr(C)]
-#[derive(Drop)]
+#[derive(Clone, Copy)]
 pub struct Config {
     pub id: EntityId,
     pub remotes: [Remote; 8],
@@ -31,7 +31,7 @@ pub struct Config {
 
 // What a put fixes: types::Fixed with its head.
 #[repr(C)]
-#[derive(Drop)]
+#[derive(Clone, Copy)]
 pub struct Transaction {
     pub source: EntityId,
     pub number: TransactionSeqNum,
@@ -51,7 +51,7 @@ pub struct Transaction {
 
 // types::Marks.
 #[repr(C)]
-#[derive(Drop)]
+#[derive(Clone, Copy)]
 pub struct HeldMarks {
     pub cancelled: u8,
     pub owed: u8,
@@ -64,7 +64,7 @@ pub struct HeldMarks {
 // What the last accepted step said: how many bytes of the out buffer are the PDU (0: none), and the events with their transaction. `progress`, `action`
 // and `condition` belong to the fault, `values` to the finished event; `timer` is 0 none, 1 ack timer, 2 check timer.
 #[repr(C)]
-#[derive(Drop)]
+#[derive(Clone, Copy)]
 pub struct Report {
     pub length: u64,
     pub progress: u64,
@@ -82,7 +82,7 @@ pub struct Report {
 
 // What the last accepted burst said: how many steps it made, and what each said, in order; the places behind keep what they held.
 #[repr(C)]
-#[derive(Drop)]
+#[derive(Clone, Copy)]
 pub struct BurstReport {
     pub count: u64,
     pub steps: [Report; 16],
@@ -90,7 +90,7 @@ pub struct BurstReport {
 
 // What the last delivery said, a refused one too: how many of the delivered bytes are the PDU's; 0 if it was Malformed.
 #[repr(C)]
-#[derive(Drop)]
+#[derive(Clone, Copy)]
 pub struct DeliverReport {
     pub length: u64,
 }
@@ -98,7 +98,7 @@ pub struct DeliverReport {
 // The handler: `number` is the next put's; `step` is 0 Idle, 1 SendingMetadata, 2 SendingFileData, 3 SendingEof, 4 WaitingForEofAck,
 // 5 WaitingForFinished, 6 Closing, and any other number is Idle.
 #[repr(C)]
-#[derive(Drop)]
+#[derive(Clone, Copy)]
 pub struct Handler {
     pub config: Config,
     pub number: TransactionSeqNum,

@@ -6,17 +6,17 @@
 
 // A width in bytes (1, 2, 4 or 8) and a value that fits it. An entity id can never stand where a sequence number is due.
 #[repr(C)]
-#[derive(Drop)]
+#[derive(Clone, Copy)]
 pub struct EntityId(pub u8, pub u64);
 
 #[repr(C)]
-#[derive(Drop)]
+#[derive(Clone, Copy)]
 pub struct TransactionSeqNum(pub u8, pub u64);
 
 // ---- PDUs
 
 // What a header says besides the PDU's type, its direction and the length of the data field.
-#[derive(Drop)]
+#[derive(Clone, Copy)]
 pub struct Head {
     pub unacknowledged: bool,
     pub crc: bool,
@@ -27,14 +27,14 @@ pub struct Head {
 }
 
 // What a writer did: the PDU's length, or that it doesn't fit and nothing was written.
-#[derive(Drop)]
+#[derive(Clone, Copy)]
 pub enum Written {
     Short,
     Wrote(usize),
 }
 
 // A delivery's header, where its body starts and ends among the delivered bytes, and how many of these are the PDU's; what stands behind is fill.
-#[derive(Drop)]
+#[derive(Clone, Copy)]
 pub struct Frame {
     pub head: Head,
     pub filedata: bool,
@@ -44,7 +44,7 @@ pub struct Frame {
     pub length: usize,
 }
 
-#[derive(Drop)]
+#[derive(Clone, Copy)]
 pub enum Framed {
     Malformed,
     Whole(Frame),
@@ -52,7 +52,7 @@ pub enum Framed {
 
 // One request of a NAK: the bytes from start up to end.
 #[repr(C)]
-#[derive(Drop)]
+#[derive(Clone, Copy)]
 pub struct SegmentRequest {
     pub start: u64,
     pub end: u64,
@@ -60,7 +60,7 @@ pub struct SegmentRequest {
 
 // A Finished PDU's values.
 #[repr(C)]
-#[derive(Drop)]
+#[derive(Clone, Copy)]
 pub struct FinishedParams {
     pub condition: u8,
     pub delivery: u8,
@@ -68,7 +68,7 @@ pub struct FinishedParams {
 }
 
 // What a PDU for the sender says.
-#[derive(Drop)]
+#[derive(Clone, Copy)]
 pub enum Meaning {
     Finished(FinishedParams),
     AckOfEof,
@@ -77,7 +77,7 @@ pub enum Meaning {
 }
 
 // What a body is: none by the layouts, one that the sender can't process, or one with a meaning.
-#[derive(Drop)]
+#[derive(Clone, Copy)]
 pub enum Body {
     Malformed,
     CantProcess,
@@ -85,7 +85,7 @@ pub enum Body {
 }
 
 // A checksum, or that its type is none of document 01's.
-#[derive(Drop)]
+#[derive(Clone, Copy)]
 pub enum Checksum {
     Is(u32),
     UnknownType,
@@ -94,7 +94,7 @@ pub enum Checksum {
 // ---- Configuration and request
 
 // What is known of a remote entity: an entry of the table.
-#[derive(Drop)]
+#[derive(Clone, Copy)]
 pub struct RemoteEntityConfig {
     pub id: EntityId,
     pub maxpacket: u64,
@@ -108,7 +108,7 @@ pub struct RemoteEntityConfig {
 
 // Our own: the id, the fault action of each of sixteen conditions, the flags of two events, and the table, of which the first
 // `count` entries are looked at.
-#[derive(Drop)]
+#[derive(Clone, Copy)]
 pub struct LocalEntityConfig {
     pub id: EntityId,
     pub actions: [u8; 16],
@@ -119,13 +119,13 @@ pub struct LocalEntityConfig {
 }
 
 // A put's own word, or the entry's.
-#[derive(Drop)]
+#[derive(Clone, Copy)]
 pub enum Choice {
     Given(bool),
     Default,
 }
 
-#[derive(Drop)]
+#[derive(Clone, Copy)]
 pub struct PutRequest {
     pub destination: EntityId,
     pub unacknowledged: Choice,
@@ -134,7 +134,7 @@ pub struct PutRequest {
 
 // ---- State
 
-#[derive(Drop)]
+#[derive(Clone, Copy)]
 pub enum TransactionStep {
     Idle,
     SendingMetadata,
@@ -146,7 +146,7 @@ pub enum TransactionStep {
 }
 
 // What a put fixes; `segment` is L and `size` is S.
-#[derive(Drop)]
+#[derive(Clone, Copy)]
 pub struct Fixed {
     pub head: Head,
     pub closure: bool,
@@ -161,7 +161,7 @@ pub struct Fixed {
 
 // Both names, copied; zeros behind.
 #[repr(C)]
-#[derive(Drop)]
+#[derive(Clone, Copy)]
 pub struct Names {
     pub source: [u8; 255],
     pub sourcelen: u8,
@@ -171,7 +171,7 @@ pub struct Names {
 
 // What an EOF says.
 #[repr(C)]
-#[derive(Drop)]
+#[derive(Clone, Copy)]
 pub struct Eof {
     pub condition: u8,
     pub sum: u32,
@@ -180,7 +180,7 @@ pub struct Eof {
 
 // First-pass bytes sent: how many, and their checksum, the number that an EOF carries for them.
 #[repr(C)]
-#[derive(Drop)]
+#[derive(Clone, Copy)]
 pub struct FileParams {
     pub progress: u64,
     pub sum: u32,
@@ -188,14 +188,14 @@ pub struct FileParams {
 
 // Pending requests, the oldest first; the places from `count` on are zero.
 #[repr(C)]
-#[derive(Drop)]
+#[derive(Clone, Copy)]
 pub struct Queue {
     pub places: [SegmentRequest; 64],
     pub count: usize,
 }
 
 // The cancel mark, whether its EOF is still owed, its condition; the expiry count; the Finished PDU's values; the Rust's anomaly count.
-#[derive(Drop)]
+#[derive(Clone, Copy)]
 pub struct Marks {
     pub cancelled: bool,
     pub owed: bool,
@@ -206,7 +206,7 @@ pub struct Marks {
 }
 
 // `number` is the next put's.
-#[derive(Drop)]
+#[derive(Clone, Copy)]
 pub struct State {
     pub number: TransactionSeqNum,
     pub step: TransactionStep,
@@ -220,7 +220,7 @@ pub struct State {
 // ---- The table of steps
 
 // A row of the table: the answer to each kind of PDU.
-#[derive(Drop)]
+#[derive(Clone, Copy)]
 pub enum Verdict {
     Enqueue,
     Move,
@@ -228,7 +228,7 @@ pub enum Verdict {
     NoEffect,
 }
 
-#[derive(Drop)]
+#[derive(Clone, Copy)]
 pub struct Row {
     pub nak: Verdict,
     pub ack: Verdict,
@@ -239,7 +239,7 @@ pub struct Row {
 // ---- A step
 
 // What a step does: one case for each numbered item of document 01, the faults of items 6 and 7 by their action, with the condition.
-#[derive(Drop)]
+#[derive(Clone, Copy)]
 pub enum Due {
     CancelEof,
     Repair,
@@ -255,7 +255,7 @@ pub enum Due {
 }
 
 // The PDU that it emits.
-#[derive(Drop)]
+#[derive(Clone, Copy)]
 pub enum Sending {
     Nothing,
     Metadata,
@@ -266,10 +266,10 @@ pub enum Sending {
 
 // ---- Events: each at most once in a step, in this order
 
-#[derive(Drop)]
+#[derive(Clone, Copy)]
 pub struct TransactionId(pub EntityId, pub TransactionSeqNum);
 
-#[derive(Drop)]
+#[derive(Clone, Copy)]
 pub enum FaultEvent {
     NoFault,
     Fault {
@@ -279,20 +279,20 @@ pub enum FaultEvent {
     },
 }
 
-#[derive(Drop)]
+#[derive(Clone, Copy)]
 pub enum FinishedEvent {
     NotFinished,
     Finished(FinishedParams),
 }
 
-#[derive(Drop)]
+#[derive(Clone, Copy)]
 pub enum TimerEvent {
     NoTimer,
     AckTimer,
     CheckTimer,
 }
 
-#[derive(Drop)]
+#[derive(Clone, Copy)]
 pub struct Events {
     pub id: TransactionId,
     pub transaction: bool,
@@ -304,7 +304,7 @@ pub struct Events {
 
 // ---- Answers
 
-#[derive(Drop)]
+#[derive(Clone, Copy)]
 pub enum Refusal {
     AlreadyBusy,
     BadIdWidth,
@@ -325,21 +325,21 @@ pub enum Refusal {
     BurstTooLong,
 }
 
-#[derive(Drop)]
+#[derive(Clone, Copy)]
 pub enum Answer {
     Accepted,
     Refused(Refusal),
 }
 
 // Of a put.
-#[derive(Drop)]
+#[derive(Clone, Copy)]
 pub struct Done {
     pub answer: Answer,
     pub state: State,
 }
 
 // Of a delivery: how many of the delivered bytes are the PDU's, on a refusal too (0: Malformed).
-#[derive(Drop)]
+#[derive(Clone, Copy)]
 pub struct Delivered {
     pub answer: Answer,
     pub length: usize,
@@ -347,7 +347,7 @@ pub struct Delivered {
 }
 
 // Of a step: how many bytes of the out buffer are the PDU (0: none), and the events.
-#[derive(Drop)]
+#[derive(Clone, Copy)]
 pub struct Stepped {
     pub answer: Answer,
     pub length: usize,
@@ -356,14 +356,14 @@ pub struct Stepped {
 }
 
 // What a step of a burst made: how many bytes of the out buffer are its PDU (0: none), and its events.
-#[derive(Drop)]
+#[derive(Clone, Copy)]
 pub struct Made {
     pub length: usize,
     pub events: Events,
 }
 
 // Of a burst: how many steps were made, and what each made; the places behind are blank.
-#[derive(Drop)]
+#[derive(Clone, Copy)]
 pub struct Bursted {
     pub answer: Answer,
     pub count: usize,
@@ -372,7 +372,7 @@ pub struct Bursted {
 }
 
 // Of a cancel.
-#[derive(Drop)]
+#[derive(Clone, Copy)]
 pub struct Cancelled {
     pub yes: bool,
     pub state: State,
