@@ -100,6 +100,9 @@ def turn(crate, where, old, name, entry, said):
     head, decls = blocks(text)
     needs = {same(a): b for a, b in entry["needs"]}
     places = [tuple(p[2]) for p in entry["places"]]
+    by_name = {same(p[0]): n for p, n in zip(entry["places"], entry["places_by_name"])}
+    text = re.sub(r"\btie\.([\w-]+)", lambda m: "goal." + by_name[same(m[1])] if same(m[1]) in by_name else m[0], text)
+    head, decls = blocks(text)
     uses = [l for l in head if not re.search(r"\.(Statement\.\{statement\}|Tie as tie)$", l) and not re.match(r"-- Assumes nothing", l)]
     inv, ans, other = [], [], []
     loops = [(same(a), b, c) for a, b, c in loop_names(entry)]
@@ -127,7 +130,7 @@ def turn(crate, where, old, name, entry, said):
         if n:
             word = same(n[1])
             new = needs.get(word) or needs.get(re.sub(r"^overflow-", "", word)) or needs.get(word.replace("slice-bounds", "part"))
-            if not new and PLAIN.match("\n".join(b[1:]).split(" = ", 1)[-1].strip()):
+            if not new and "unfolding" not in "".join(b) and PLAIN.match("\n".join(b[1:]).split(" = ", 1)[-1].strip()):
                 continue
         body = "\n".join(b[1:])
         if not new:
@@ -140,9 +143,9 @@ def turn(crate, where, old, name, entry, said):
             continue
         args = [a for a in d[2].split() if a not in ("κs",)]
         right = body[d.end() :].strip()
-        if PLAIN.match(right):
-            continue
         lead = body[: d.start()]
+        if PLAIN.match(right) and not lead.strip():
+            continue
         ans.append(paths("pub %s : goal.%s\n%s%s %s =%s" % (new, new, lead, new, " ".join(args), body[d.end() :]), places))
     os.makedirs(folder, exist_ok=True)
     path = "Rattle.%s.proofs.%s" % (crate, where.replace("/", "."))

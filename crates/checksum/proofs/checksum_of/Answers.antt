@@ -6,19 +6,19 @@ use Rattle.checksum.proofs.checksum_of.Goals as goal
 
 pub returns-in-0 : goal.returns-in-0
 unfolding checksum_of
-returns-in-0 c = simp (c.in-0.keys1, c.calc_modular_checksum.ensures)
+returns-in-0 c = simp (c.in-0.is, c.calc_modular_checksum.ensures)
 
 pub returns-in-2 : goal.returns-in-2
 unfolding checksum_of
-returns-in-2 c = simp (c.in-0.keys2, c.crc32_castagnoli.ensures, crc32-whole)
+returns-in-2 c = simp (c.in-2.is, c.crc32_castagnoli.ensures, crc32-whole)
 
 pub returns-in-3 : goal.returns-in-3
 unfolding checksum_of
-returns-in-3 c = simp (c.in-0.keys3, c.crc32_ethernet.ensures, crc32-whole)
+returns-in-3 c = simp (c.in-3.is, c.crc32_ethernet.ensures, crc32-whole)
 
 pub returns-in-15 : goal.returns-in-15
 unfolding checksum_of
-returns-in-15 c = simp c.in-0.keys4
+returns-in-15 c = simp c.in-15.is
 
 pub returns-in_default : goal.returns-in_default
 unfolding checksum_of

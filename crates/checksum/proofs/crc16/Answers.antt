@@ -6,11 +6,11 @@ use Rattle.checksum.proofs.Linear.{table_crc16}
 use Rattle.checksum.proofs.crc16.Goals as goal
 
 -- the constant is the table
-from-table : (c : tie.After-by-table) → c.by_table-c.result ≡ table_from eights16 0xFFFF c.args.s.now
+from-table : (c : goal.After-by_table-c) → c.by_table-c.result ≡ table_from eights16 0xFFFF c.args.s.now
 unfolding eights16 swapped tabled
 from-table c = c.by_table-c.ensures
 
-exchanged : (c : tie.After-by-table) → let r = c.by_table-c.result in (r < 65536) × (swapped r ≡ crc16 c.args.s.now)
+exchanged : (c : goal.After-by_table-c) → let r = c.by_table-c.result in (r < 65536) × (swapped r ≡ crc16 c.args.s.now)
 unfolding crc16 swapped
 exchanged c = let b = c in
     rw (from-table c) (table_crc16 0xFFFF b.args.s.now (omega arith) (λ i. (b.shared_slice_known-1.given i).fits))

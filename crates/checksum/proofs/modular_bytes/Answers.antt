@@ -15,7 +15,7 @@ loop-i-preserved c =
     let b = c in
     let l = b.loop-i in (
       search rules,
-      rw (c.wrapping_add_u32-sum.ensures, c.at_place.ensures) (byte_step l.sum l.k _ _ b.loop-i-test.true ∙ l.invariant.1),
+      rw (c.wrapping_add_u32-sum.ensures.value, c.at_place.ensures) (byte_step l.sum l.k _ _ b.loop-i-test.true ∙ l.invariant.1),
     )
 
 pub returns : goal.returns

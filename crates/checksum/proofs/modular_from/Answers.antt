@@ -11,7 +11,7 @@ loop-i-preserved c =
     let l = b.loop-i in (
       search rules,
       search rules,
-      rw (c.wrapping_add_u32-sum.ensures, c.word.ensures) (word-step l.sum b.args.s.now l.i (omega arith) ∙ l.invariant.2),
+      rw (c.wrapping_add_u32-sum.ensures.value, c.word.ensures) (word-step l.sum b.args.s.now l.i (omega arith) ∙ l.invariant.2),
     )
 
 pub returns : goal.returns
