@@ -49,6 +49,14 @@ def blocks(text):
 
 def paths(text, places):
     text = re.sub(r"(?<=[\w'\]\)])((?:\.before)+)(?=[.\s)\],;]|$)", "", text)
+    text = re.sub(r"\.([\w-]+?)_(?:contract|lem)(\d*)(?=[.\s)\],;]|$)", r".\1\2", text)
+    arms = {}
+    for old, new in places:
+        if new not in arms.setdefault(old, []):
+            arms[old].append(new)
+    for old, news in arms.items():
+        if old:
+            text = re.sub(r"\.%s\.keys(\d+)" % re.escape(old), lambda m: ".\0%s.is" % news[int(m[1]) - 1] if int(m[1]) <= len(news) else m[0], text)
     for old, new in sorted(places, key=lambda p: -len(p[0])):
         if old and new:
             text = re.sub(r"\.%s(?![\w'-])" % re.escape(old).replace("_", "[_-]").replace(r"\-", "[_-]").replace("-", "[_-]").replace("[_[_-]]", "[_-]"), lambda m: ".\0" + new, text)

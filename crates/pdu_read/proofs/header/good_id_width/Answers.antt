@@ -1,0 +1,6 @@
+-- The width judged is the definition's.
+use borrow.Author.Rules.{rules}
+use Rattle.pdu_read.proofs.header.good_id_width.Goals as goal
+
+pub returns : goal.returns
+returns c = rw (c.good_width.ensures, c.id_width.ensures.0)
