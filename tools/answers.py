@@ -59,7 +59,7 @@ def paths(text, places):
             text = re.sub(r"\.%s\.keys(\d+)" % re.escape(old), lambda m: ".\0%s.is" % news[int(m[1]) - 1] if int(m[1]) <= len(news) else m[0], text)
     for old, new in sorted(places, key=lambda p: -len(p[0])):
         if old and new:
-            text = re.sub(r"\.%s(?![\w'-])" % re.escape(old).replace("_", "[_-]").replace(r"\-", "[_-]").replace("-", "[_-]").replace("[_[_-]]", "[_-]"), lambda m: ".\0" + new, text)
+            text = re.sub(r"(?<!args)(?<!new)\.%s(?![\w'-])" % re.escape(old).replace("_", "[_-]").replace(r"\-", "[_-]").replace("-", "[_-]").replace("[_[_-]]", "[_-]"), lambda m: ".\0" + new, text)
     return text.replace("\0", "")
 
 
