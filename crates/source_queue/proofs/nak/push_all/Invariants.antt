@@ -1,0 +1,15 @@
+-- The rest of the requests pushed behind what is there gives what all of them give.
+use mathlib.Core.Path.{◌≡◌, sym, ◌∙◌}
+use mathlib.Core.Logic.{⊎_elim}
+use Rattle.rules_pdu.specs.Reading.{requests_from}
+use Rattle.pdu_read.specs.Reader.{pair_at}
+use Rattle.rules.specs.Queues.{push_owed, push_all}
+use Rattle.source_queue.proofs.Requests.{room, pushed, unpushed, push_turn, push-end}
+use borrow.Author.Rules.{rules}
+use Rattle.source_queue.proofs.nak.push_all.Given as goal
+
+abbrev pub invariant-loop-k : goal.invariant-loop-k
+invariant-loop-k l = push_all l.u (requests_from l.k l.large l.bytes l.i) ≡ push_all l.initial.u (requests_from l.n l.large l.bytes l.at)
+
+abbrev pub decreases-loop-k : goal.decreases-loop-k
+decreases-loop-k l = l.k
