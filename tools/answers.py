@@ -59,7 +59,7 @@ def paths(text, places):
             text = re.sub(r"\.%s\.keys(\d+)" % re.escape(old), lambda m: ".\0%s.is" % news[int(m[1]) - 1] if int(m[1]) <= len(news) else m[0], text)
     for old, new in sorted(places, key=lambda p: -len(p[0])):
         if old and new:
-            text = re.sub(r"(?<!args)(?<!new)\.%s(?![\w'-])" % re.escape(old).replace("_", "[_-]").replace(r"\-", "[_-]").replace("-", "[_-]").replace("[_[_-]]", "[_-]"), lambda m: ".\0" + new, text)
+            text = re.sub(r"(?<![\w.'\])-])([A-Za-z_]\w*)\.%s(?![\w'-])" % re.escape(old).replace("_", "[_-]").replace(r"\-", "[_-]").replace("-", "[_-]").replace("[_[_-]]", "[_-]"), lambda m: m[1] + ".\0" + new, text)
     return text.replace("\0", "")
 
 
@@ -152,7 +152,7 @@ def turn(crate, where, old, name, entry, said):
         args = [a for a in d[2].split() if a not in ("κs",)]
         right = body[d.end() :].strip()
         lead = body[: d.start()]
-        if PLAIN.match(right) and not lead.strip():
+        if (PLAIN.match(right) and not lead.strip()) or "enum_told" in right or "enum-told" in right:
             continue
         ans.append(paths("pub %s : goal.%s\n%s%s %s =%s" % (new, new, lead, new, " ".join(args), body[d.end() :]), places))
     os.makedirs(folder, exist_ok=True)
