@@ -152,9 +152,13 @@ def turn(crate, where, old, name, entry, said):
         args = [a for a in d[2].split() if a not in ("κs",)]
         right = body[d.end() :].strip()
         lead = body[: d.start()]
-        if (PLAIN.match(right) and not lead.strip()) or "enum_told" in right or "enum-told" in right:
+        if PLAIN.match(right) and not lead.strip():
             continue
-        ans.append(paths("pub %s : goal.%s\n%s%s %s =%s" % (new, new, lead, new, " ".join(args), body[d.end() :]), places))
+        arm = re.match(r"returns-(in-\w+)", new)
+        told = body[d.end() :]
+        if arm:
+            told = re.sub(r"(?<![\w.])\w+(?:\.before)*\.[\w-]+\.given\.1", "c.%s.is" % arm[1], told)
+        ans.append(paths("pub %s : goal.%s\n%s%s %s =%s" % (new, new, lead, new, " ".join(args), told), places))
     os.makedirs(folder, exist_ok=True)
     path = "Rattle.%s.proofs.%s" % (crate, where.replace("/", "."))
     comments = [l for l in uses if l.startswith("--")]

@@ -4,7 +4,7 @@ use pdu_read::field::{byte_at, part_of};
 use types::{Answer, Bursted, State, Stepped};
 
 // Where the list and the answers stand after a call, the state, and the status: 0 go on, 1 unknown kind, 2 cut list, 3 no room.
-#[derive(Drop)]
+#[derive(Clone, Copy)]
 pub struct Turn {
     pub at: usize,
     pub put: usize,

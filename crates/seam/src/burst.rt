@@ -14,7 +14,7 @@ use seam_rules::memory::{BurstReport, Handler, Report};
 use seam_rules::{BurstDone, Done};
 
 // What is held after the steps made, the report of each in its place, how many they are, and the code of the last one tried.
-#[derive(Drop)]
+#[derive(Clone, Copy)]
 pub struct Ran {
     pub held: Handler,
     pub steps: [Report; 16],

@@ -14,7 +14,7 @@ use source_deliver::effect::{Arrival, Effect, answer_by, moved_by, moves_queue, 
 use types::{Answer, State};
 
 // `heavy`: the queue moves, as `effect` says; else `light` is all that does. The report is written in any case.
-#[derive(Drop)]
+#[derive(Clone, Copy)]
 pub struct Heard {
     pub code: u32,
     pub heavy: bool,

@@ -6,7 +6,7 @@ use crate::stored::{fixed_stored, marks_stored, step_no};
 use seam_rules::memory::{Handler, HeldMarks, Report, Transaction};
 use types::{FileParams, Fixed, Queue, State};
 
-#[derive(Drop)]
+#[derive(Clone, Copy)]
 pub struct Light {
     pub step: u8,
     pub transaction: Transaction,

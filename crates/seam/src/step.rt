@@ -18,7 +18,7 @@ use source_step::outcome::Outcome;
 use types::{Answer, State, Stepped};
 
 // `heavy`: the names or the queue move, as `bulk` says; else `light` is all that does.
-#[derive(Drop)]
+#[derive(Clone, Copy)]
 pub struct Told {
     pub code: u32,
     pub heavy: bool,

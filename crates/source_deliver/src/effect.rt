@@ -13,7 +13,7 @@ use types::{
     Answer, Delivered, FinishedParams, Queue, Refusal, SegmentRequest, State, TransactionStep,
 };
 
-#[derive(Drop)]
+#[derive(Clone, Copy)]
 pub enum Effect {
     Refuse(Refusal),
     NoEffect,
@@ -26,7 +26,7 @@ pub enum Effect {
 }
 
 // What a delivery comes to, and how many of its bytes are the PDU's; of a Malformed one, none.
-#[derive(Drop)]
+#[derive(Clone, Copy)]
 pub struct Arrival {
     pub effect: Effect,
     pub length: usize,

@@ -7,7 +7,7 @@ ghost use Rattle.source_step.specs.Bulk.{bulk_of, is_kept};
 
 use types::{Due, State};
 
-#[derive(Drop)]
+#[derive(Clone, Copy)]
 pub enum Bulk {
     Kept,
     // the oldest request is served

@@ -11,7 +11,7 @@ use types::{
 };
 
 // How far a burst is: what it has made, how many bytes of the out buffer that took, and how many steps may follow.
-#[derive(Drop)]
+#[derive(Clone, Copy)]
 pub struct Going {
     pub burst: Bursted,
     pub at: usize,

@@ -10,7 +10,7 @@ ghost use Rattle.source_step.specs.Outcomes.{refused_by, accepted_by, stepped_by
 use types::{Answer, Due, Refusal, State, Stepped, Written};
 
 // Where it is accepted: what was due, the checksum of the first-pass bytes behind it, and how many bytes of the out buffer are the PDU.
-#[derive(Drop)]
+#[derive(Clone, Copy)]
 pub struct Outcome {
     pub answer: Answer,
     pub due: Due,
