@@ -50,6 +50,7 @@ def blocks(text):
 def paths(text, places):
     text = re.sub(r"(?<=[\w'\]\)])((?:\.before)+)(?=[.\s)\],;]|$)", "", text)
     text = re.sub(r"\.([\w-]+?)_(?:contract|lem)(\d*)(?=[.\s)\],;]|$)", r".\1\2", text)
+    others = set(re.findall(r"let (\w+) = \w+\.[\w.-]+ in", text))
     arms = {}
     for old, new in places:
         if new not in arms.setdefault(old, []):
@@ -59,7 +60,7 @@ def paths(text, places):
             text = re.sub(r"\.%s\.keys(\d+)" % re.escape(old), lambda m: ".\0%s.is" % news[int(m[1]) - 1] if int(m[1]) <= len(news) else m[0], text)
     for old, new in sorted(places, key=lambda p: -len(p[0])):
         if old and new:
-            text = re.sub(r"(?<![\w.'\])-])([A-Za-z_]\w*)\.%s(?![\w'-])" % re.escape(old).replace("_", "[_-]").replace(r"\-", "[_-]").replace("-", "[_-]").replace("[_[_-]]", "[_-]"), lambda m: m[1] + ".\0" + new, text)
+            text = re.sub(r"(?<![\w.'\])-])([A-Za-z_]\w*)\.%s(?![\w'-])" % re.escape(old).replace("_", "[_-]").replace(r"\-", "[_-]").replace("-", "[_-]").replace("[_[_-]]", "[_-]"), lambda m: m[0] if m[1] in others else m[1] + ".\0" + new, text)
     return text.replace("\0", "")
 
 

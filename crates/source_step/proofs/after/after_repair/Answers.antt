@@ -1,0 +1,6 @@
+-- The queue served, and nothing else. Assumes nothing.
+use borrow.Author.Rules.{rules}
+use Rattle.source_step.proofs.after.after_repair.Goals as goal
+
+pub returns : goal.returns
+returns c = cc

@@ -1,0 +1,6 @@
+-- The fields as they are named, with the transaction's id. Assumes nothing.
+use borrow.Author.Rules.{rules}
+use Rattle.source_step.proofs.events.eof_sent.Goals as goal
+
+pub returns : goal.returns
+returns c = rw c.id_of-id.ensures

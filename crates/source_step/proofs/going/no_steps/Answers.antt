@@ -1,0 +1,6 @@
+-- Sixteen blank places. Assumes nothing.
+use borrow.Author.Rules.{rules}
+use Rattle.source_step.proofs.going.no_steps.Goals as goal
+
+pub returns : goal.returns
+returns c = rw c.none_made-steps.ensures

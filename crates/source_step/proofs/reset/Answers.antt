@@ -1,0 +1,8 @@
+-- Idle with the number kept. Assumes nothing.
+use Rattle.rules.specs.Cancel.{reset_outcome}
+use borrow.Author.Rules.{rules}
+use Rattle.source_step.proofs.reset.Goals as goal
+
+pub returns : goal.returns
+unfolding reset_outcome
+returns c = c.idle.ensures
