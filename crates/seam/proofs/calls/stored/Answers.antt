@@ -1,0 +1,6 @@
+-- What is stored.
+use borrow.Author.Rules.{rules}
+use Rattle.seam.proofs.calls.stored.Goals as goal
+
+pub returns : goal.returns
+returns c = rw (c.held_of-u.ensures)

@@ -1,0 +1,6 @@
+-- What each callee gave is its definition.
+use borrow.Author.Rules.{rules}
+use Rattle.seam.proofs.deliver.queue_held.Goals as goal
+
+pub returns : goal.returns
+returns c = rw (c.queued.ensures, c.light_held.ensures, c.queue_by-q.ensures)

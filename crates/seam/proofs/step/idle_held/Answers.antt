@@ -1,0 +1,6 @@
+-- Idle, stored.
+use borrow.Author.Rules.{rules}
+use Rattle.seam.proofs.step.idle_held.Goals as goal
+
+pub returns : goal.returns
+returns c = rw (c.held_of.ensures, c.idle-s.ensures)

@@ -1,0 +1,6 @@
+-- The light part is what was there.
+use borrow.Author.Rules.{rules}
+use Rattle.seam.proofs.step.kept.Goals as goal
+
+pub returns : goal.returns
+returns c = rw c.light_kept-light.ensures
