@@ -7,7 +7,6 @@ use pdu_read::field::part_of;
 use send_text::list::is;
 use send_text::tell;
 use send_text::words::{Taken, Words, defaults, with_word};
-use std::env::FillError;
 use std::fs::File;
 use std::rt::Env;
 use types::{Answer, Done, State};
