@@ -2,27 +2,28 @@
 // time of k microseconds.
 use crate::files;
 use send_text::tell;
+use std::fs::File;
+use std::io;
+use std::io::Write;
 
 // Magic, version 2.4, zone and accuracy 0, at most 65,535 bytes a record, link type.
-fn begun(fd: i32) -> bool {
-    io::write_all(
-        fd,
+fn begun(file: &File) -> io::Result<()> {
+    let mut to = file;
+    to.write_all(
         b"\xa1\xb2\xc3\xd4\x00\x02\x00\x04\x00\x00\x00\x00\x00\x00\x00\x00\x00\x00\xff\xff\x00\x00\x00\x93",
     )
 }
 
-// A descriptor of the capture that argument i names behind "pcap=", begun anew, or -1, and then it has been said.
-pub fn open(i: usize) -> i32 {
-    let fd = files::open_over(i, 5);
-    if fd < 0 {
-        return fd;
+// The capture that argument i names behind "pcap=", begun anew; where it is none, that has been said.
+pub fn open(rt: &HostRuntime, i: usize) -> Option<File> {
+    let file = files::open_over(rt, i, 5)?;
+    match begun(&file) {
+        Ok(()) => Some(file),
+        Err(e) => {
+            tell::capture_cut_short(rt, 0, e);
+            None
+        }
     }
-    if begun(fd) {
-        return fd;
-    }
-    tell::capture_cut_short(0);
-    libc::close(fd);
-    -1
 }
 
 // What stands before record k of n bytes: seconds and microseconds, n as captured and as it was.
@@ -35,14 +36,14 @@ fn head(k: u64, n: u64) -> [u8; 16] {
     out
 }
 
-// Whether record k is whole in the capture, or there is no capture.
-pub fn kept(fd: i32, k: u64, pdu: &[u8]) -> bool {
-    if fd < 0 {
-        return true;
+// Record k, whole in the capture; nothing where there is none.
+pub fn kept(capture: Option<&File>, k: u64, pdu: &[u8]) -> io::Result<()> {
+    match capture {
+        None => Ok(()),
+        Some(file) => {
+            let mut to = file;
+            to.write_all(&head(k, pdu.len() as u64))?;
+            to.write_all(pdu)
+        }
     }
-    let before = head(k, pdu.len() as u64);
-    if io::write_all(fd, &before) {
-        return io::write_all(fd, pdu);
-    }
-    false
 }

@@ -3,70 +3,72 @@ use crate::files::Loaded;
 use crate::output::Output;
 use crate::run::Pass;
 use crate::{capture, files, frames, put, run};
-use libc::STDOUT_FILENO;
 use pdu_read::field::part_of;
 use send_text::list::is;
 use send_text::tell;
 use send_text::words::{Taken, Words, defaults, with_word};
+use std::fs::File;
+use std::rt::Env;
 use types::{Answer, Done, State};
 
 // ---- words
 
-fn complain(t: Taken, s: &[u8]) {
+fn complain(rt: &HostRuntime, t: Taken, s: &[u8]) {
     match t {
         Taken::With(_) => {}
-        Taken::UnknownWord => tell::about(b"send: unknown word: ", s, b"\n"),
-        Taken::BadValue => tell::about(b"send: bad value: ", s, b"\n"),
+        Taken::UnknownWord => tell::about(rt, b"send: unknown word: ", s, b"\n"),
+        Taken::BadValue => tell::about(rt, b"send: bad value: ", s, b"\n"),
     }
 }
 
 // The words with argument i, whose bytes are s.
-fn taken(w: Words, s: &[u8], i: usize) -> Taken {
+fn taken(rt: &HostRuntime, w: Words, s: &[u8], i: usize) -> Taken {
     let t = with_word(w, s, i);
-    complain(t, s);
+    complain(rt, t, s);
     t
 }
 
-fn argument(w: Words, i: usize) -> Taken {
-    let mut word = io::buffer();
-    let n = os::arg(i, &mut word);
-    if os::errno() != 0 {
-        tell::line(b"send: a word is longer than 4096 bytes\n");
-        return Taken::UnknownWord;
+fn argument(rt: &HostRuntime, w: Words, i: usize) -> Taken {
+    let mut word = [0u8; 4096];
+    match rt.arg(i, &mut word) {
+        Ok(n) => taken(rt, w, &word[..n], i),
+        Err(_) => {
+            tell::line(rt, b"send: a word is longer than 4096 bytes\n");
+            Taken::UnknownWord
+        }
     }
-    taken(w, &word[..n], i)
 }
 
 // After a wrong word the others are not looked at.
-fn then(t: Taken, i: usize) -> Taken {
+fn then(rt: &HostRuntime, t: Taken, i: usize) -> Taken {
     match t {
-        Taken::With(w) => argument(w, i),
+        Taken::With(w) => argument(rt, w, i),
         Taken::UnknownWord => Taken::UnknownWord,
         Taken::BadValue => Taken::BadValue,
     }
 }
 
 // Argument 0 is the program and 1 the file.
-fn arguments(n: usize) -> Taken {
+fn arguments(rt: &HostRuntime, n: usize) -> Taken {
     let mut t = Taken::With(defaults());
     let mut i = 2;
     while i < n {
-        t = then(t, i);
+        t = then(rt, t, i);
         i += 1;
     }
     t
 }
 
 // Whether the file's place is taken by a call for help.
-pub fn helps() -> bool {
-    let mut word = io::buffer();
-    let n = os::arg(1, &mut word);
+pub fn helps(rt: &HostRuntime) -> bool {
+    let mut word = [0u8; 4096];
+    let n = files::arg(rt, 1, &mut word);
     is(&word[..n], b"--help")
 }
 
-pub fn command(n: usize) {
-    match arguments(n) {
-        Taken::With(w) => with_words(w),
+pub fn command(rt: &HostRuntime, n: usize) {
+    match arguments(rt, n) {
+        Taken::With(w) => with_words(rt, w),
         Taken::UnknownWord => {}
         Taken::BadValue => {}
     }
@@ -74,44 +76,53 @@ pub fn command(n: usize) {
 
 // ---- files
 
-fn with_words(w: Words) {
+fn with_words(rt: &HostRuntime, w: Words) {
     let mut file = [0u8; 1048576];
-    with_room(w, &mut file);
+    with_room(rt, w, &mut file);
 }
 
-fn with_room(w: Words, file: &mut [u8; 1048576]) {
-    match files::load(1, 0, file, b": larger than 1048576 bytes\n") {
-        Loaded::Bytes(n) => with_file(w, part_of(file, 0, n)),
-        Loaded::Unreadable => {}
+fn with_room(rt: &HostRuntime, w: Words, file: &mut [u8; 1048576]) {
+    match files::load(rt, 1, 0, file, b": larger than 1048576 bytes\n") {
+        Loaded::Bytes(n) => with_file(rt, w, part_of(file, 0, n)),
+        Loaded::Unreadable(_) => {}
         Loaded::TooLarge => {}
     }
 }
 
-fn with_file(w: Words, file: &[u8]) {
-    let mut answers = io::large_buffer();
+fn with_file(rt: &HostRuntime, w: Words, file: &[u8]) {
+    let mut answers = [0u8; 65536];
     if w.answers == 0 {
-        return with_answers(w, file, part_of(&answers, 0, 0));
+        return with_answers(rt, w, file, part_of(&answers, 0, 0));
     }
-    match files::load(w.answers, 8, &mut answers, b": larger than 65536 bytes\n") {
-        Loaded::Bytes(n) => with_answers(w, file, part_of(&answers, 0, n)),
-        Loaded::Unreadable => {}
+    match files::load(
+        rt,
+        w.answers,
+        8,
+        &mut answers,
+        b": larger than 65536 bytes\n",
+    ) {
+        Loaded::Bytes(n) => with_answers(rt, w, file, part_of(&answers, 0, n)),
+        Loaded::Unreadable(_) => {}
         Loaded::TooLarge => {}
     }
 }
 
-fn with_answers(w: Words, file: &[u8], answers: &[u8]) {
+fn with_answers(rt: &HostRuntime, w: Words, file: &[u8], answers: &[u8]) {
     let f = frames::frames_in(answers);
     if !f.whole {
-        tell::line(b"send: the last answer is cut short; nothing was sent\n");
+        tell::line(
+            rt,
+            b"send: the last answer is cut short; nothing was sent\n",
+        );
         return;
     }
-    with_frames(w, file, answers, f.count);
+    with_frames(rt, w, file, answers, f.count);
 }
 
 // ---- put
 
 // An argument and where its value begins.
-#[derive(Drop)]
+#[derive(Clone, Copy)]
 struct Value {
     i: usize,
     skip: usize,
@@ -147,13 +158,13 @@ fn asked(w: Words, source: &[u8], destination: &[u8], size: u64) -> Done {
     )
 }
 
-fn put(w: Words, size: u64) -> Done {
+fn put(rt: &HostRuntime, w: Words, size: u64) -> Done {
     let a = source_of(w);
     let b = dest_of(w);
-    let mut from = io::buffer();
-    let n = os::arg(a.i, &mut from);
-    let mut to = io::buffer();
-    let m = os::arg(b.i, &mut to);
+    let mut from = [0u8; 4096];
+    let n = files::arg(rt, a.i, &mut from);
+    let mut to = [0u8; 4096];
+    let m = files::arg(rt, b.i, &mut to);
     asked(
         w,
         part_of(&from[..n], a.skip, n),
@@ -162,69 +173,87 @@ fn put(w: Words, size: u64) -> Done {
     )
 }
 
-fn with_frames(w: Words, file: &[u8], answers: &[u8], count: u64) {
-    let d = put(w, file.len() as u64);
+fn with_frames(rt: &HostRuntime, w: Words, file: &[u8], answers: &[u8], count: u64) {
+    let d = put(rt, w, file.len() as u64);
     let r = d.answer;
     let s = d.state;
     match r {
-        Answer::Refused(x) => tell::refused(b"send: put", 0, x),
-        Answer::Accepted => with_state(w, s, file, answers, count),
+        Answer::Refused(x) => tell::refused(rt, b"send: put", 0, x),
+        Answer::Accepted => with_state(rt, w, s, file, answers, count),
     }
 }
 
 // ---- the pass
 
 // The output is opened last, when all else is well.
-fn with_state(w: Words, s: State, file: &[u8], answers: &[u8], count: u64) {
+fn with_state(rt: &HostRuntime, w: Words, s: State, file: &[u8], answers: &[u8], count: u64) {
     if w.pcap == 0 {
-        return with_capture(w, s, file, answers, count, -1);
+        return with_capture(rt, w, s, file, answers, count, None);
     }
-    let fd = capture::open(w.pcap);
-    if fd < 0 {
-        return;
+    if let Some(pcap) = capture::open(rt, w.pcap) {
+        with_capture(rt, w, s, file, answers, count, Some(&pcap));
+        closed(
+            rt,
+            pcap,
+            b"send: the capture could not be closed, so it may lack PDUs\n",
+        );
     }
-    with_capture(w, s, file, answers, count, fd);
-    closed(
-        libc::close(fd),
-        b"send: the capture could not be closed, so it may lack PDUs\n",
-    );
 }
 
-fn with_capture(w: Words, s: State, file: &[u8], answers: &[u8], count: u64, pcap: i32) {
+fn with_capture(
+    rt: &HostRuntime,
+    w: Words,
+    s: State,
+    file: &[u8],
+    answers: &[u8],
+    count: u64,
+    pcap: Option<&File>,
+) {
     if w.out == 0 {
-        return with_output(w, s, file, answers, count, pcap, STDOUT_FILENO);
+        return with_output(rt, w, s, file, answers, count, pcap, None);
     }
-    let fd = files::open_over(w.out, 4);
-    if fd < 0 {
-        return;
+    if let Some(out) = files::open_over(rt, w.out, 4) {
+        with_output(rt, w, s, file, answers, count, pcap, Some(&out));
+        closed(
+            rt,
+            out,
+            b"send: the output could not be closed, so it may lack PDUs\n",
+        );
     }
-    with_output(w, s, file, answers, count, pcap, fd);
-    closed(
-        libc::close(fd),
-        b"send: the output could not be closed, so it may lack PDUs\n",
-    );
 }
 
-fn with_output(w: Words, s: State, file: &[u8], answers: &[u8], count: u64, pcap: i32, fd: i32) {
+fn with_output(
+    rt: &HostRuntime,
+    w: Words,
+    s: State,
+    file: &[u8],
+    answers: &[u8],
+    count: u64,
+    pcap: Option<&File>,
+    out: Option<&File>,
+) {
     let o = Output {
-        fd: fd,
+        rt: rt,
+        file: out,
         form: w.form,
         capture: pcap,
         timed: w.timed,
         burst: w.burst as usize,
     };
-    summary(run::to_the_end(s, file, answers, o), count);
+    summary(rt, run::to_the_end(s, file, answers, o), count);
 }
 
-fn closed(status: i32, lacking: &[u8]) {
-    if status < 0 {
-        tell::line(lacking);
+// std closes a file and says nothing of it, so what the system held back is asked for first.
+fn closed(rt: &HostRuntime, file: File, lacking: &[u8]) {
+    if !files::settled(&file) {
+        tell::line(rt, lacking);
     }
 }
 
-fn left_over(count: u64, delivered: u64) {
+fn left_over(rt: &HostRuntime, count: u64, delivered: u64) {
     if delivered < count {
         tell::counts(
+            rt,
             b"send: # of # answers were not used\n",
             count - delivered,
             count,
@@ -232,11 +261,11 @@ fn left_over(count: u64, delivered: u64) {
     }
 }
 
-fn summary(t: Pass, count: u64) {
+fn summary(rt: &HostRuntime, t: Pass, count: u64) {
     let tally = t.tally;
     let s = t.state;
     let step = s.step;
-    tell::summary(tally);
-    tell::waits(step);
-    left_over(count, t.delivered);
+    tell::summary(rt, tally);
+    tell::waits(rt, step);
+    left_over(rt, count, t.delivered);
 }

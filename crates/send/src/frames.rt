@@ -23,7 +23,7 @@ pub fn next_frame(s: &[u8], at: usize) -> usize {
 }
 
 // How many whole frames stand there, and whether nothing stands behind them.
-#[derive(Drop)]
+#[derive(Clone, Copy)]
 pub struct Frames {
     pub count: u64,
     pub whole: bool,

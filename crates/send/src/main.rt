@@ -9,15 +9,15 @@ mod output;
 mod put;
 mod run;
 
-fn main() {
-    let n = os::arg_count();
+fn main(rt: HostRuntime) {
+    let n = files::arg_count(&rt);
     if n < 2 {
-        send_text::tell::usage();
+        send_text::tell::usage(&rt);
         return;
     }
-    if command::helps() {
-        send_text::tell::usage();
+    if command::helps(&rt) {
+        send_text::tell::usage(&rt);
         return;
     }
-    command::command(n);
+    command::command(&rt, n);
 }

@@ -3,16 +3,31 @@ use pdu_read::field::part_of;
 use send_text::code::answer;
 use send_text::pdu::{received, sent};
 use send_text::text::{hex_bytes, hex_line, text};
+use std::fs::File;
+use std::io;
+use std::io::Write;
 use types::Answer;
 
-// The output and its form (0 framed, 1 hex, 2 hex with its meaning), the capture (-1: none), whether the timer expires, and the steps of a burst (0: no bursts).
-#[derive(Drop)]
-pub struct Output {
-    pub fd: i32,
+// The output (none: standard output) and its form (0 framed, 1 hex, 2 hex with its meaning), the capture, whether the timer expires, and the steps of a
+// burst (0: no bursts).
+#[derive(Clone, Copy)]
+pub struct Output<'a> {
+    pub rt: &'a HostRuntime,
+    pub file: Option<&'a File>,
     pub form: u8,
-    pub capture: i32,
+    pub capture: Option<&'a File>,
     pub timed: bool,
     pub burst: usize,
+}
+
+fn put_out(o: Output<'_>, s: &[u8]) -> io::Result<()> {
+    match o.file {
+        None => o.rt.stdout().write_all(s),
+        Some(file) => {
+            let mut to = file;
+            to.write_all(s)
+        }
+    }
 }
 
 // ---- what leaves
@@ -42,10 +57,10 @@ fn formed(out: &mut [u8], form: u8, pdu: &[u8], repair: bool) -> usize {
     }
 }
 
-pub fn written(o: Output, pdu: &[u8], repair: bool) -> bool {
+pub fn written(o: Output<'_>, pdu: &[u8], repair: bool) -> io::Result<()> {
     let mut out = [0u8; 16384];
     let n = formed(&mut out, o.form, pdu, repair);
-    io::write_all(o.fd, part_of(&out, 0, n))
+    put_out(o, part_of(&out, 0, n))
 }
 
 // ---- what comes
@@ -58,11 +73,11 @@ fn heard(out: &mut [u8], pdu: &[u8], a: Answer) -> usize {
 }
 
 // With the meaning, what comes is shown too.
-pub fn shown(o: Output, pdu: &[u8], a: Answer) -> bool {
+pub fn shown(o: Output<'_>, pdu: &[u8], a: Answer) -> io::Result<()> {
     if o.form < 2 {
-        return true;
+        return Ok(());
     }
     let mut out = [0u8; 16384];
     let n = heard(&mut out, pdu, a);
-    io::write_all(o.fd, part_of(&out, 0, n))
+    put_out(o, part_of(&out, 0, n))
 }

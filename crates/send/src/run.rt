@@ -13,7 +13,7 @@ use source_state::is_idle;
 use types::{Answer, Bursted, Events, Made, Queue, Refusal, State, Stepped};
 
 // The handler, the answers' place and how many were delivered, the timer, whether to go on.
-#[derive(Drop)]
+#[derive(Clone, Copy)]
 pub struct Pass {
     pub state: State,
     pub at: usize,
@@ -41,9 +41,9 @@ fn counted(t: Tally, pdu: &[u8], repair: bool) -> Tally {
 }
 
 // A sign of life after every 256 PDUs.
-fn progress(pdus: u64, done: u64, size: u64) {
+fn progress(rt: &HostRuntime, pdus: u64, done: u64, size: u64) {
     if pdus % 256 == 0 {
-        tell::counts(b"send: # of # bytes\n", done, size);
+        tell::counts(rt, b"send: # of # bytes\n", done, size);
     }
 }
 
@@ -62,42 +62,48 @@ fn passed(t: Pass) -> u64 {
 }
 
 // The pass after its PDU number k, counted from 0, is in the capture.
-fn kept(t: Pass, k: u64, pdu: &[u8], o: Output) -> Pass {
-    if capture::kept(o.capture, k, pdu) {
-        return t;
+fn kept(t: Pass, k: u64, pdu: &[u8], o: Output<'_>) -> Pass {
+    match capture::kept(o.capture, k, pdu) {
+        Ok(()) => t,
+        Err(e) => {
+            tell::capture_cut_short(o.rt, k, e);
+            stopped(t)
+        }
     }
-    tell::capture_cut_short(k);
-    stopped(t)
 }
 
-fn emitted(t: Pass, s: State, e: Events, pdu: &[u8], repair: bool, o: Output) -> Pass {
+fn emitted(t: Pass, s: State, e: Events, pdu: &[u8], repair: bool, o: Output<'_>) -> Pass {
     let tally = t.tally;
-    if written(o, pdu, repair) {
-        tell::events(e);
-        let more = counted(tally, pdu, repair);
-        progress(more.pdus, s.file.progress, s.fixed.size);
-        return kept(with_pdu(t, s, more), passed(t), pdu, o);
+    match written(o, pdu, repair) {
+        Ok(()) => {
+            tell::events(o.rt, e);
+            let more = counted(tally, pdu, repair);
+            progress(o.rt, more.pdus, s.file.progress, s.fixed.size);
+            kept(with_pdu(t, s, more), passed(t), pdu, o)
+        }
+        Err(reason) => {
+            tell::cut_short(o.rt, tally.pdus, reason);
+            stopped(t)
+        }
     }
-    tell::cut_short(tally.pdus);
-    stopped(t)
 }
 
 // ---- what comes
 
-fn said(k: u64, a: Answer) {
+fn said(rt: &HostRuntime, k: u64, a: Answer) {
     match a {
         Answer::Accepted => {}
-        Answer::Refused(r) => tell::refused(b"send: answer #", k, r),
+        Answer::Refused(r) => tell::refused(rt, b"send: answer #", k, r),
     }
 }
 
 // Says what stands behind the PDU, the first `own` of n bytes.
-fn said_fill(k: u64, own: usize, n: usize) {
+fn said_fill(rt: &HostRuntime, k: u64, own: usize, n: usize) {
     if own == 0 {
         return;
     }
     if own < n {
-        tell::fill(k, (n - own) as u64, n as u64);
+        tell::fill(rt, k, (n - own) as u64, n as u64);
     }
 }
 
@@ -111,21 +117,25 @@ fn with_answer(t: Pass, s: State, at: usize, k: u64) -> Pass {
     v
 }
 
-fn answered(t: Pass, s: State, answers: &[u8], o: Output) -> Pass {
+fn answered(t: Pass, s: State, answers: &[u8], o: Output<'_>) -> Pass {
     let at = t.at;
     let pdu = part_of(answers, on(at, 2), frame_length(answers, at));
     let d = source::deliver(s, pdu);
     let a = d.answer;
     let next = d.state;
     let k = plus(t.delivered, 1);
-    said(k, a);
-    said_fill(k, d.length, pdu.len());
-    if shown(o, pdu, a) {
-        let more = with_answer(t, next, next_frame(answers, at), k);
-        return kept(more, passed(t), pdu, o);
+    said(o.rt, k, a);
+    said_fill(o.rt, k, d.length, pdu.len());
+    match shown(o, pdu, a) {
+        Ok(()) => {
+            let more = with_answer(t, next, next_frame(answers, at), k);
+            kept(more, passed(t), pdu, o)
+        }
+        Err(e) => {
+            tell::cut_short(o.rt, t.tally.pdus, e);
+            ended(t, next)
+        }
     }
-    tell::cut_short(t.tally.pdus);
-    ended(t, next)
 }
 
 // ---- the loop
@@ -153,7 +163,7 @@ fn timed(t: Pass, s: State, yes: bool) -> Pass {
 }
 
 // After a step that emitted nothing.
-fn quiet(t: Pass, s: State, answers: &[u8], o: Output) -> Pass {
+fn quiet(t: Pass, s: State, answers: &[u8], o: Output<'_>) -> Pass {
     let step = s.step;
     if is_idle(step) {
         return ended(t, s);
@@ -167,34 +177,34 @@ fn quiet(t: Pass, s: State, answers: &[u8], o: Output) -> Pass {
     timed(t, s, o.timed)
 }
 
-fn accepted(t: Pass, d: Stepped, space: &[u8], answers: &[u8], o: Output) -> Pass {
+fn accepted(t: Pass, d: Stepped, space: &[u8], answers: &[u8], o: Output<'_>) -> Pass {
     let e = d.events;
     let next = d.state;
     if d.length == 0 {
-        tell::events(e);
+        tell::events(o.rt, e);
         return quiet(t, next, answers, o);
     }
     let repair = t.state.queue.count > 0;
     emitted(t, next, e, part_of(space, 0, d.length), repair, o)
 }
 
-fn refused(t: Pass, s: State, r: Refusal) -> Pass {
-    tell::refused(b"send: step", 0, r);
+fn refused(t: Pass, s: State, r: Refusal, o: Output<'_>) -> Pass {
+    tell::refused(o.rt, b"send: step", 0, r);
     ended(t, s)
 }
 
-fn after(t: Pass, d: Stepped, space: &[u8], answers: &[u8], o: Output) -> Pass {
+fn after(t: Pass, d: Stepped, space: &[u8], answers: &[u8], o: Output<'_>) -> Pass {
     let a = d.answer;
     let s = d.state;
     match a {
-        Answer::Refused(r) => refused(t, s, r),
+        Answer::Refused(r) => refused(t, s, r, o),
         Answer::Accepted => accepted(t, d, space, answers, o),
     }
 }
 
-fn stepped(t: Pass, file: &[u8], answers: &[u8], o: Output) -> Pass {
+fn stepped(t: Pass, file: &[u8], answers: &[u8], o: Output<'_>) -> Pass {
     let s = t.state;
-    let mut space = io::buffer();
+    let mut space = [0u8; 4096];
     let d = source::step(s, file, t.expired, &mut space);
     after(t, d, &space, answers, o)
 }
@@ -202,7 +212,7 @@ fn stepped(t: Pass, file: &[u8], answers: &[u8], o: Output) -> Pass {
 // ---- bursts
 
 // A burst goes on after each PDU without the state that this left, but for the queue: it holds what `served` leaves, so that a repair is known.
-#[derive(Drop)]
+#[derive(Clone, Copy)]
 struct Midway {
     pass: Pass,
     queue: Queue,
@@ -215,7 +225,7 @@ fn count_of(pdus: u64, burst: usize) -> usize {
 }
 
 // The PDU of one step more, where there is one; s is the state behind the burst.
-fn with_made(l: Midway, m: Made, s: State, segment: u64, space: &[u8], o: Output) -> Midway {
+fn with_made(l: Midway, m: Made, s: State, segment: u64, space: &[u8], o: Output<'_>) -> Midway {
     let t = l.pass;
     let q = l.queue;
     if m.length == 0 {
@@ -235,7 +245,7 @@ fn with_made(l: Midway, m: Made, s: State, segment: u64, space: &[u8], o: Output
 }
 
 // The PDUs of a burst, end to end in space; a place without a step has none.
-fn laid(t: Pass, b: Bursted, space: &[u8], o: Output) -> Pass {
+fn laid(t: Pass, b: Bursted, space: &[u8], o: Output<'_>) -> Pass {
     let q = t.state.queue;
     let segment = t.state.fixed.segment;
     let steps = b.steps;
@@ -258,18 +268,18 @@ fn laid(t: Pass, b: Bursted, space: &[u8], o: Output) -> Pass {
 fn cut(t: Pass, u: Pass, file: &[u8]) -> Pass {
     let s = t.state;
     let n = up_to(t.tally.pdus as usize, u.tally.pdus as usize);
-    let mut space = io::large_buffer();
+    let mut space = [0u8; 65536];
     let b = source::burst(s, file, t.expired, n, &mut space);
     ended(u, b.state)
 }
 
 // Behind the PDUs of a burst: its last step may have emitted nothing.
-fn behind(u: Pass, m: Made, s: State, answers: &[u8], o: Output) -> Pass {
+fn behind(u: Pass, m: Made, s: State, answers: &[u8], o: Output<'_>) -> Pass {
     if m.length > 0 {
         return u;
     }
     let e = m.events;
-    tell::events(e);
+    tell::events(o.rt, e);
     quiet(u, s, answers, o)
 }
 
@@ -279,7 +289,7 @@ fn burst_accepted(
     space: &[u8],
     file: &[u8],
     answers: &[u8],
-    o: Output,
+    o: Output<'_>,
 ) -> Pass {
     let u = laid(t, b, space, o);
     if u.going {
@@ -290,22 +300,22 @@ fn burst_accepted(
 }
 
 // No PDU is longer than 4,096 bytes, so sixteen have room.
-fn bursted(t: Pass, file: &[u8], answers: &[u8], o: Output) -> Pass {
+fn bursted(t: Pass, file: &[u8], answers: &[u8], o: Output<'_>) -> Pass {
     let s = t.state;
     let n = count_of(t.tally.pdus, o.burst);
-    let mut space = io::large_buffer();
+    let mut space = [0u8; 65536];
     let b = source::burst(s, file, t.expired, n, &mut space);
     let a = b.answer;
     let next = b.state;
     match a {
-        Answer::Refused(r) => refused(t, next, r),
+        Answer::Refused(r) => refused(t, next, r, o),
         Answer::Accepted => burst_accepted(t, b, &space, file, answers, o),
     }
 }
 
 // ---- from the first step to the last
 
-fn called(t: Pass, file: &[u8], answers: &[u8], o: Output) -> Pass {
+fn called(t: Pass, file: &[u8], answers: &[u8], o: Output<'_>) -> Pass {
     if o.burst == 0 {
         return stepped(t, file, answers, o);
     }
@@ -331,7 +341,7 @@ fn started(s: State) -> Pass {
 }
 
 // Nothing says that a pass ends, so the turns are counted, from a number that no pass uses up.
-pub fn to_the_end(s: State, file: &[u8], answers: &[u8], o: Output) -> Pass {
+pub fn to_the_end(s: State, file: &[u8], answers: &[u8], o: Output<'_>) -> Pass {
     let mut t = started(s);
     let mut turns: u64 = 18446744073709551615;
     while turns > 0 {

@@ -98,7 +98,7 @@ pub fn sent(out: &mut [u8], at: usize, pdu: &[u8], repair: bool) -> usize {
     }
 }
 
-#[derive(Drop)]
+#[derive(Clone, Copy)]
 pub enum Sum {
     Of(u64),
     NoEof,

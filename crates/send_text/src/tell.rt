@@ -1,12 +1,12 @@
 // Lines to standard error: what is wrong, how far the pass is, what came of it. Each is put together first and written by one call.
 use crate::code;
 use crate::text::{hex, listed, numbers, text};
-use libc::STDERR_FILENO;
 use pdu_read::field::part_of;
+use std::io::Error;
 use types::{Events, FaultEvent, FinishedEvent, FinishedParams, Refusal, TransactionStep};
 
 // What has left so far; the checksum is that of the last EOF.
-#[derive(Drop)]
+#[derive(Clone, Copy)]
 pub struct Tally {
     pub pdus: u64,
     pub bytes: u64,
@@ -15,9 +15,9 @@ pub struct Tally {
     pub sum: u64,
 }
 
-// A line as it stands.
-pub fn line(s: &[u8]) {
-    io::write_all(STDERR_FILENO, s);
+// A line as it stands. Where standard error takes none, the program goes on.
+pub fn line(rt: &HostRuntime, s: &[u8]) {
+    let _ = rt.stderr().write_all(s);
 }
 
 fn joined(out: &mut [u8], before: &[u8], s: &[u8], after: &[u8]) -> usize {
@@ -27,38 +27,56 @@ fn joined(out: &mut [u8], before: &[u8], s: &[u8], after: &[u8]) -> usize {
 }
 
 // A line about a word or a file, which stands between two texts.
-pub fn about(before: &[u8], s: &[u8], after: &[u8]) {
+pub fn about(rt: &HostRuntime, before: &[u8], s: &[u8], after: &[u8]) {
     let mut out = [0u8; 4352];
     let n = joined(&mut out, before, s, after);
-    line(part_of(&out, 0, n));
+    line(rt, part_of(&out, 0, n));
+}
+
+// The system's words, without the number that std sets behind them.
+fn words_of(text: &str) -> &str {
+    match text.split_once(" (os error ") {
+        Some((words, _)) => words,
+        None => text,
+    }
+}
+
+// What failed, a colon and the reason.
+fn fail(rt: &HostRuntime, what: &[u8], e: Error) {
+    line(rt, what);
+    line(rt, b": ");
+    if let Ok(reason) = e.to_string(rt.alloc()) {
+        line(rt, words_of(reason.as_str()).as_bytes());
+    }
+    line(rt, b"\n");
 }
 
 // A file that the system refuses, with its reason.
-pub fn failed(s: &[u8]) {
-    line(b"send: ");
-    os::fail(s);
+pub fn failed(rt: &HostRuntime, s: &[u8], e: Error) {
+    line(rt, b"send: ");
+    fail(rt, s, e);
 }
 
 // A write failed: how much there is, and the system's reason.
-fn ends(s: &[u8], n: u64) {
+fn ends(rt: &HostRuntime, s: &[u8], n: u64, e: Error) {
     let mut out = [0u8; 96];
     let k = numbers(&mut out, 0, s, n, 0);
-    os::fail(part_of(&out, 0, k));
+    fail(rt, part_of(&out, 0, k), e);
 }
 
-pub fn cut_short(n: u64) {
-    ends(b"send: the output ends after # whole PDUs", n);
+pub fn cut_short(rt: &HostRuntime, n: u64, e: Error) {
+    ends(rt, b"send: the output ends after # whole PDUs", n, e);
 }
 
-pub fn capture_cut_short(n: u64) {
-    ends(b"send: the capture ends after # whole PDUs", n);
+pub fn capture_cut_short(rt: &HostRuntime, n: u64, e: Error) {
+    ends(rt, b"send: the capture ends after # whole PDUs", n, e);
 }
 
 // A line with numbers in place of each '#'.
-pub fn counts(s: &[u8], n: u64, m: u64) {
+pub fn counts(rt: &HostRuntime, s: &[u8], n: u64, m: u64) {
     let mut out = [0u8; 256];
     let k = numbers(&mut out, 0, s, n, m);
-    line(part_of(&out, 0, k));
+    line(rt, part_of(&out, 0, k));
 }
 
 fn refusal_text(out: &mut [u8], what: &[u8], k: u64, r: Refusal) -> usize {
@@ -68,10 +86,10 @@ fn refusal_text(out: &mut [u8], what: &[u8], k: u64, r: Refusal) -> usize {
 }
 
 // What was refused, with its number where it has one.
-pub fn refused(what: &[u8], k: u64, r: Refusal) {
+pub fn refused(rt: &HostRuntime, what: &[u8], k: u64, r: Refusal) {
     let mut out = [0u8; 128];
     let n = refusal_text(&mut out, what, k, r);
-    line(part_of(&out, 0, n));
+    line(rt, part_of(&out, 0, n));
 }
 
 fn fill_text(out: &mut [u8], k: u64, behind: u64, all: u64) -> usize {
@@ -86,10 +104,10 @@ fn fill_text(out: &mut [u8], k: u64, behind: u64, all: u64) -> usize {
 }
 
 // Of answer k so many bytes stand behind the PDU.
-pub fn fill(k: u64, behind: u64, all: u64) {
+pub fn fill(rt: &HostRuntime, k: u64, behind: u64, all: u64) {
     let mut out = [0u8; 128];
     let n = fill_text(&mut out, k, behind, all);
-    line(part_of(&out, 0, n));
+    line(rt, part_of(&out, 0, n));
 }
 
 // ---- events
@@ -109,7 +127,7 @@ fn fault_text(out: &mut [u8], a: u8, c: u8, progress: u64) -> usize {
     action(out, q, a)
 }
 
-fn fault(f: FaultEvent) {
+fn fault(rt: &HostRuntime, f: FaultEvent) {
     match f {
         FaultEvent::NoFault => {}
         FaultEvent::Fault {
@@ -119,7 +137,7 @@ fn fault(f: FaultEvent) {
         } => {
             let mut out = [0u8; 128];
             let n = fault_text(&mut out, action, condition, progress);
-            line(part_of(&out, 0, n));
+            line(rt, part_of(&out, 0, n));
         }
     }
 }
@@ -129,20 +147,21 @@ fn finished_text(out: &mut [u8], v: FinishedParams) -> usize {
     text(out, p, b"\n")
 }
 
-fn finished(f: FinishedEvent) {
+fn finished(rt: &HostRuntime, f: FinishedEvent) {
     match f {
         FinishedEvent::NotFinished => {}
         FinishedEvent::Finished(v) => {
             let mut out = [0u8; 192];
             let n = finished_text(&mut out, v);
-            line(part_of(&out, 0, n));
+            line(rt, part_of(&out, 0, n));
         }
     }
 }
 
-fn begun(transaction: bool, source: u64, number: u64) {
+fn begun(rt: &HostRuntime, transaction: bool, source: u64, number: u64) {
     if transaction {
         counts(
+            rt,
             b"send: transaction begun, source # number #\n",
             source,
             number,
@@ -150,21 +169,21 @@ fn begun(transaction: bool, source: u64, number: u64) {
     }
 }
 
-fn eof_sent(yes: bool) {
+fn eof_sent(rt: &HostRuntime, yes: bool) {
     if yes {
-        line(b"send: EOF sent\n");
+        line(rt, b"send: EOF sent\n");
     }
 }
 
 // The events of a step, in their order; timers are the loop's business.
-pub fn events(e: Events) {
+pub fn events(rt: &HostRuntime, e: Events) {
     let id = e.id;
     let f = e.fault;
     let g = e.finished;
-    begun(e.transaction, id.0.1, id.1.1);
-    eof_sent(e.eofsent);
-    fault(f);
-    finished(g);
+    begun(rt, e.transaction, id.0.1, id.1.1);
+    eof_sent(rt, e.eofsent);
+    fault(rt, f);
+    finished(rt, g);
 }
 
 // ---- the end
@@ -184,10 +203,10 @@ fn summary_text(out: &mut [u8], t: Tally) -> usize {
     text(out, r, b"\n")
 }
 
-pub fn summary(t: Tally) {
+pub fn summary(rt: &HostRuntime, t: Tally) {
     let mut out = [0u8; 192];
     let n = summary_text(&mut out, t);
-    line(part_of(&out, 0, n));
+    line(rt, part_of(&out, 0, n));
 }
 
 fn place(s: TransactionStep) -> usize {
@@ -203,22 +222,28 @@ fn place(s: TransactionStep) -> usize {
 }
 
 // What the handler still waits for.
-pub fn waits(s: TransactionStep) {
-    line(crate::list::nth(
-        b";send: stopped before the metadata\n;send: stopped before the last file data\n;send: stopped before the EOF\n;\
+pub fn waits(rt: &HostRuntime, s: TransactionStep) {
+    line(
+        rt,
+        crate::list::nth(
+            b";send: stopped before the metadata\n;send: stopped before the last file data\n;send: stopped before the EOF\n;\
           send: still waiting for the ACK of EOF\n;send: still waiting for Finished\n;send: stopped before the end\n;",
-        place(s),
-    ));
+            place(s),
+        ),
+    );
 }
 
-pub fn usage() {
+pub fn usage(rt: &HostRuntime) {
     line(
+        rt,
         b"usage: send FILE [from=1] [to=2] [number=7] [idwidth=1] [seqwidth=1] [mode=unacknowledged|acknowledged]\n",
     );
     line(
+        rt,
         b"    [closure=yes|no] [crc=yes|no] [checksum=modular|crc32c|crc32|null] [segment=1024] [packet=1024]\n",
     );
     line(
+        rt,
         b"    [source=NAME] [dest=NAME] [limit=N] [burst=N] [out=FILE] [pcap=FILE] [answers=FILE] [--hex] [--say]\n",
     );
 }

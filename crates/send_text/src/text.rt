@@ -19,14 +19,35 @@ pub fn listed(out: &mut [u8], at: usize, list: &[u8], n: usize) -> usize {
 
 fn decimal(out: &mut [u8], at: usize, n: u64) -> usize {
     let mut digits = [0u8; 20];
-    let k = io::decimal(n, &mut digits);
-    text(out, at, &digits[..k])
+    let mut k = 20;
+    let mut rest = n;
+    while k > 0 {
+        k -= 1;
+        digits[k] = 48 + (rest % 10) as u8;
+        rest /= 10;
+        if rest == 0 {
+            break;
+        }
+    }
+    text(out, at, &digits[k..])
 }
 
+// In lower case, with zeros in front up to width digits, of which there are 16 at most.
 pub fn hex(out: &mut [u8], at: usize, n: u64, width: usize) -> usize {
     let mut digits = [0u8; 16];
-    let k = io::hex(n, width, &mut digits);
-    text(out, at, &digits[..k])
+    let mut k = 16;
+    let mut rest = n;
+    while k > 0 {
+        k -= 1;
+        digits[k] = digit(rest % 16);
+        rest /= 16;
+        if rest == 0 {
+            if 16 - k >= width {
+                break;
+            }
+        }
+    }
+    text(out, at, &digits[k..])
 }
 
 // A place n bytes further; those in a PDU are below 2^32.

@@ -4,7 +4,7 @@ use crate::list::place_in;
 use crate::values::choice_word;
 
 // What the words ask for. A name is kept as the number of its argument, 0 where none was given.
-#[derive(Drop)]
+#[derive(Clone, Copy)]
 pub struct Words {
     pub from: u64,
     pub to: u64,
@@ -56,7 +56,7 @@ pub fn defaults() -> Words {
     }
 }
 
-#[derive(Drop)]
+#[derive(Clone, Copy)]
 pub enum Taken {
     With(Words),
     UnknownWord,

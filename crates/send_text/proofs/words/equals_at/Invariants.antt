@@ -1,0 +1,10 @@
+-- `equals_at`: safe, and it ends.
+use Prim.Native.Nat.{◌-◌}
+use lib.ListN.{length}
+use Rattle.send_text.proofs.words.equals_at.Given as goal
+
+abbrev pub invariant-loop-i : goal.invariant-loop-i
+invariant-loop-i l = Unit {0}
+
+abbrev pub decreases-loop-i : goal.decreases-loop-i
+decreases-loop-i l = length l.s - l.i
