@@ -2,8 +2,10 @@
 // printed from what cfdp-rs's source.rs gave to the same calls (tests/cfdp-rs/sample.txt).
 #![tactic(auto)]
 
-fn main() {
-    let mut buf = io::large_buffer();
-    let n = io::read_full(0, &mut buf);
-    replay::all(&buf[..n], replay::Ids::ByValue);
+use std::io;
+
+fn main(rt: HostRuntime) -> io::Result<()> {
+    let mut buf = [0u8; 65536];
+    let n = intake::read_full(&mut rt.stdin(), &mut buf)?;
+    replay::all(&rt, &buf[..n], replay::Ids::ByValue)
 }

@@ -3,13 +3,14 @@
 #![tactic(auto)]
 
 use pdu_read::field::part_of;
+use std::io;
 
-fn main() {
-    let mut input = io::large_buffer();
-    let n = io::read_full(0, &mut input);
-    let mut answers = io::large_buffer();
+fn main(rt: HostRuntime) -> io::Result<()> {
+    let mut input = [0u8; 65536];
+    let n = intake::read_full(&mut rt.stdin(), &mut input)?;
+    let mut answers = [0u8; 65536];
     let k = driven(&input[..n], &mut answers);
-    io::write_all(1, part_of(&answers, 0, k));
+    rt.write_all(part_of(&answers, 0, k))
 }
 
 fn driven(input: &[u8], answers: &mut [u8]) -> usize {

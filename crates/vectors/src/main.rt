@@ -9,8 +9,10 @@ mod run;
 mod take;
 mod written;
 
-fn main() {
-    let mut buf = io::large_buffer();
-    let n = io::read_full(0, &mut buf);
-    run::all(&buf[..n]);
+use std::io;
+
+fn main(rt: HostRuntime) -> io::Result<()> {
+    let mut buf = [0u8; 65536];
+    let n = intake::read_full(&mut rt.stdin(), &mut buf)?;
+    run::all(&rt, &buf[..n])
 }

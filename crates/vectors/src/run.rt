@@ -4,6 +4,7 @@ use crate::metadata::metadata_vector;
 use crate::take;
 use crate::written::{ack_vector, data_vector, eof_vector};
 use pdu_read::field::{byte_at, part_of};
+use std::io;
 use types::Checksum;
 
 // Whether a vector agrees, and where the next one begins.
@@ -76,12 +77,12 @@ fn one(kind: u8, s: &[u8], at: usize) -> Ran {
     }
 }
 
-fn say(label: &[u8], ok: bool) {
-    io::write_all(1, label);
+fn say(rt: &impl Print, label: &[u8], ok: bool) -> io::Result<()> {
+    rt.write_all(label)?;
     if ok {
-        io::write_all(1, b": ok\n");
+        rt.write_all(b": ok\n")
     } else {
-        io::write_all(1, b": differs\n");
+        rt.write_all(b": differs\n")
     }
 }
 
@@ -95,7 +96,7 @@ fn more(n: u64, ok: bool) -> u64 {
     n + 1
 }
 
-pub fn all(s: &[u8]) {
+pub fn all(rt: &impl Print, s: &[u8]) -> io::Result<()> {
     let mut at = 0;
     let mut k: u64 = 0;
     let mut bad: u64 = 0;
@@ -106,13 +107,13 @@ pub fn all(s: &[u8]) {
         let n = byte_at(s, take::on(at, 1)) as usize;
         let body = take::on(take::on(at, 2), n);
         let r = one(byte_at(s, at), s, body);
-        say(part_of(s, take::on(at, 2), n), r.ok);
+        say(rt, part_of(s, take::on(at, 2), n), r.ok)?;
         bad = more(bad, r.ok);
         at = r.next;
         k += 1;
     }
-    io::print_decimal(1, k);
-    io::write_all(1, b" vectors, ");
-    io::print_decimal(1, bad);
-    io::write_all(1, b" differ\n");
+    rt.print(k)?;
+    rt.write_all(b" vectors, ")?;
+    rt.print(bad)?;
+    rt.write_all(b" differ\n")
 }

@@ -15,7 +15,7 @@ pub(crate) fn wrote(w: Written, out: &[u8], want: &[u8]) -> bool {
             if byte_at(out, n) != 165 {
                 return false;
             }
-            check::same(part_of(out, 0, n), want)
+            part_of(out, 0, n) == want
         }
     }
 }
