@@ -1,7 +1,7 @@
 -- One relation for each public call, between what goes in and what comes out: the code's contracts cite these and nothing else.
 -- To read it: `(x : A) → P` "for every x of A, P", and `P → Q` "if P, then Q"; `(x : A) × P` "there is an x of A with P", and `P × Q` "P and Q"; `P ⊎ Q` "P or Q"; `¬ P` "not P"; `P ↔ Q` "P exactly
 -- if Q"; `⊥` what never holds; `a ≡ b` "a equals b". `x.f` is the field f of x, `p.0` and `p.1` are the parts of a pair. `[]` is the empty list, `x ∷ l` one that begins with x, `l ++ m` both joined, `map f l` f of
--- each. In a contract `λ r.` names the result, `⌜ P ⌝` is the fact P, and `now x.entry` and `now x.exit` are the bytes behind x when the call begins and when it ends.
+-- each. In a contract `result` is what the function returns, `x.now` are the bytes behind x, and `x.old` and `x.new` those when the call begins and when it ends.
 -- Assumes nothing.
 use Rattle.std.specs.Prelude.{◌≡◌, Bool, List, ℕ, length}
 use Rattle.rules.specs.Put.{put_outcome}
