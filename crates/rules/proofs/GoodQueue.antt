@@ -12,7 +12,7 @@ use lib.ListN.{length, get_or, take, drop, set, replicate, length-append, length
 use lib.Seq.{take-suc-set, drop-set-lt, drop-drop, drop-append-le}
 use Rattle.basis.proofs.Pick.{neither, cases}
 use Rattle.rules.specs.States.{blank, empty_queue}
-use Rattle.rules.specs.Queues.{pending, is_metadata, owes, invalid, any_invalid, owing, push, push_owed, push_all, oldest, pop, served}
+use Rattle.rules.specs.Queues.{pending, is_metadata, owes, invalid, any_invalid, push, push_owed, push_all, oldest, pop, served}
 use Rattle.rules.specs.Good.{AllOwe, GoodQueue}
 use Rattle.types.specs.declared.SegmentRequest.{SegmentRequest}
 use Rattle.types.specs.declared.Queue.{Queue}

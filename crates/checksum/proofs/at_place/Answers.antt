@@ -1,5 +1,5 @@
 -- The place in its word says how many bytes are below.
-use Rattle.std.proofs.Common.{◌≡◌, ◌%◌, mul-one, arith, rules}
+use Rattle.std.proofs.Common.{◌≡◌, ◌%◌, mul-one, arith}
 use Rattle.rules_leaves.specs.Checksum.{at_place}
 use Rattle.checksum.proofs.at_place.Goals as goal
 

@@ -1,5 +1,5 @@
 -- By its table it is the CRC-16 with its bytes exchanged, and they are exchanged back.
-use Rattle.std.proofs.Common.{◌≡◌, ◌<◌, arith, rules}
+use Rattle.std.proofs.Common.{◌≡◌, ◌<◌, arith}
 use Rattle.rules_leaves.specs.Checksum.{crc16}
 use Rattle.checksum.specs.Tables.{table_from, eights16, swapped, tabled}
 use Rattle.checksum.proofs.Linear.{table_crc16}

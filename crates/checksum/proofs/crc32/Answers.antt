@@ -1,5 +1,5 @@
 -- By the table of a polynomial it is the CRC of that; the polynomial reversed twice is itself.
-use Rattle.std.proofs.Common.{arith, rules}
+use Rattle.std.proofs.Common.{arith}
 use Rattle.rules_leaves.proofs.Sums.{crc32-reversed}
 use Rattle.checksum.proofs.Linear.{table-crc}
 use Rattle.checksum.proofs.crc32.Goals as goal

@@ -1,8 +1,6 @@
 -- What is left of the bytes, from the sum so far and its place, always gives what all of them give from the start.
-use Rattle.std.proofs.Common.{◌≡◌, ◌-◌, ◌<◌, length, drop, ◌∙◌, drop_of_length-le, rules}
-use Rattle.rules_leaves.specs.Checksum.{more, modular_at}
-use Rattle.rules_leaves.proofs.Sums.{in_word}
-use Rattle.checksum.proofs.Words.{byte_step}
+use Rattle.std.proofs.Common.{◌≡◌, ◌-◌, ◌<◌, length, drop}
+use Rattle.rules_leaves.specs.Checksum.{modular_at}
 use Rattle.checksum.proofs.modular_bytes.Given as goal
 
 abbrev pub invariant-loop-i : goal.invariant-loop-i

@@ -1,7 +1,6 @@
 -- What is left of the bytes, from the sum so far, always gives what all of them give from the start. Behind the whole words the sum goes on by bytes.
-use Rattle.std.proofs.Common.{◌≡◌, ◌-◌, ◌%◌, ◌≤◌, drop, ◌∙◌, arith, rules}
-use Rattle.rules_leaves.specs.Checksum.{more, modular_from}
-use Rattle.checksum.proofs.Words.{word-step, behind_words}
+use Rattle.std.proofs.Common.{◌≡◌, ◌-◌, ◌%◌, ◌≤◌, drop}
+use Rattle.rules_leaves.specs.Checksum.{modular_from}
 use Rattle.checksum.proofs.modular_from.Given as goal
 
 abbrev pub invariant-loop-i : goal.invariant-loop-i

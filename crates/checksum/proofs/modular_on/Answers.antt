@@ -1,5 +1,5 @@
 -- The bytes that end the word begun, then whole words from there.
-use Rattle.std.proofs.Common.{sym, ◌∙◌, arith, length-take-le, rules}
+use Rattle.std.proofs.Common.{sym, ◌∙◌, arith, length-take-le}
 use Rattle.checksum.proofs.Words.{word-ended}
 use Rattle.checksum.proofs.modular_on.Goals as goal
 

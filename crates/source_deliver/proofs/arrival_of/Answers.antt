@@ -1,6 +1,5 @@
 -- The header and the body that the code read are the definition's; the arm that it took is the definition's clause.
 use Rattle.source_deliver.proofs.Order.{in_order}
-use borrow.Author.Rules.{rules}
 use Rattle.source_deliver.proofs.arrival_of.Goals as goal
 
 pub returns-in-Malformed : goal.returns-in-Malformed

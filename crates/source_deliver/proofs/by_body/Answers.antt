@@ -1,7 +1,6 @@
 -- Each arm is the definition's clause.
 use mathlib.Core.Path.{ap}
 use Rattle.rules.specs.Deliver.{reporting}
-use borrow.Author.Rules.{rules}
 use Rattle.source_deliver.proofs.by_body.Goals as goal
 
 pub returns-in-Malformed : goal.returns-in-Malformed

@@ -2,7 +2,6 @@
 use mathlib.Core.Path.{ap, ◌∙◌}
 use Rattle.source_deliver.specs.Ways.{nak_done}
 use Rattle.source_deliver.proofs.Requests.{asks, moves}
-use borrow.Author.Rules.{rules}
 use Rattle.source_deliver.proofs.by_verdict.Goals as goal
 
 pub returns-in-Enqueue : goal.returns-in-Enqueue

@@ -1,6 +1,5 @@
 -- What the effect leaves is what is right.
 use mathlib.Core.Path.{◌∙◌}
-use borrow.Author.Rules.{rules}
 use Rattle.source_deliver.proofs.deliver.Goals as goal
 
 pub returns : goal.returns

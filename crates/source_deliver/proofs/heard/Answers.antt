@@ -3,7 +3,6 @@ use mathlib.Core.Path.{refl}
 use Rattle.basis.proofs.Pick.{pick-t, pick-f, told}
 use Rattle.source_deliver.specs.Asked.{is_other}
 use Rattle.source_deliver.specs.Ways.{heard_done}
-use borrow.Author.Rules.{rules}
 use Rattle.source_deliver.proofs.heard.Goals as goal
 
 pub returns-then-is_other : goal.returns-then-is_other

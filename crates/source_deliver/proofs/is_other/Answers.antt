@@ -1,7 +1,6 @@
 -- The branch that the code took is the definition's. Assumes nothing.
 use Rattle.basis.proofs.Pick.{picks, told}
 use Rattle.source_deliver.specs.Asked.{is_other}
-use borrow.Author.Rules.{rules}
 use Rattle.source_deliver.proofs.is_other.Goals as goal
 
 pub returns-then-is_idle : goal.returns-then-is_idle

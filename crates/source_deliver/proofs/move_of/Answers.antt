@@ -1,5 +1,4 @@
 -- Each arm is the definition's clause.
-use borrow.Author.Rules.{rules}
 use Rattle.source_deliver.proofs.move_of.Goals as goal
 
 pub returns-in-Finished : goal.returns-in-Finished

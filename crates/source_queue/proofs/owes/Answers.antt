@@ -1,7 +1,6 @@
 -- The tests are the definition's.
 use Rattle.basis.proofs.Pick.{picks, told}
 use Rattle.rules.specs.Queues.{owes}
-use borrow.Author.Rules.{rules}
 use Rattle.source_queue.proofs.owes.Goals as goal
 
 pub returns-then-is_metadata : goal.returns-then-is_metadata

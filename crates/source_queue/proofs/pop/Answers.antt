@@ -3,7 +3,6 @@ use native.Mathlib.Omega.{arith}
 use mathlib.Core.Path.{◌≡◌}
 use Prim.Native.Nat.{◌-◌}
 use Rattle.rules.specs.Queues.{pop}
-use borrow.Author.Rules.{rules}
 use Rattle.source_queue.proofs.pop.Goals as goal
 
 pub returns-then-n-eq0 : goal.returns-then-n-eq0

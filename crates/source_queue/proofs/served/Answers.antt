@@ -1,7 +1,6 @@
 -- What the oldest request has left decides, as the definition has it.
 use Rattle.basis.proofs.Pick.{picks}
 use Rattle.rules.specs.Queues.{served}
-use borrow.Author.Rules.{rules}
 use Rattle.source_queue.proofs.served.Goals as goal
 
 pub returns-then-left-l : goal.returns-then-left-l

@@ -1,13 +1,8 @@
 -- The loop has moved the first i elements one place down; the last store blanks the place that is left.
-use mathlib.Core.Path.{◌≡◌, ap, ◌∙◌}
-use mathlib.Core.List.{List, ◌++◌}
-use Prim.Native.Nat.{ℕ, ◌+◌, ◌-◌, ◌≤◌}
-use native.Mathlib.Omega.{arith}
-use lib.ListN.{length, length-drop, get_or, take, drop, set}
-use Rattle.basis.proofs.Lists.{shift_more, shift_last}
-use Rattle.rules.specs.States.{blank}
-use Rattle.types.specs.declared.SegmentRequest.{SegmentRequest}
-use borrow.Author.Rules.{rules}
+use mathlib.Core.Path.{◌≡◌}
+use mathlib.Core.List.{◌++◌}
+use Prim.Native.Nat.{◌-◌, ◌≤◌}
+use lib.ListN.{length, take, drop}
 use Rattle.source_queue.proofs.shifted.Given as goal
 
 abbrev pub invariant-loop-i : goal.invariant-loop-i

@@ -1,6 +1,5 @@
 -- Too long, none asked for, or by the first step. Assumes nothing.
 use mathlib.Core.Path.{◌∙◌}
-use borrow.Author.Rules.{rules}
 use Rattle.rules.proofs.Bursts.{pos}
 use Rattle.source_step.proofs.Bursting.{too_long, of_none, first-stands, first_done, first-not}
 use Rattle.source_step.proofs.burst.Goals as goal

@@ -1,7 +1,6 @@
 -- Taken or not, as may_cancel says; a state that is taken is marked with condition 15. Assumes nothing.
 use Rattle.basis.proofs.Pick.{picks, told}
 use Rattle.rules.specs.Cancel.{cancel_outcome}
-use borrow.Author.Rules.{rules}
 use Rattle.source_step.proofs.cancel.Goals as goal
 
 pub returns-then-may_cancel : goal.returns-then-may_cancel

@@ -1,6 +1,5 @@
 -- Idle with the number given. Assumes nothing.
 use Rattle.rules.specs.Cancel.{new_outcome}
-use borrow.Author.Rules.{rules}
 use Rattle.source_step.proofs.new.Goals as goal
 
 pub returns : goal.returns

@@ -1,6 +1,5 @@
 -- Idle with the number kept. Assumes nothing.
 use Rattle.rules.specs.Cancel.{reset_outcome}
-use borrow.Author.Rules.{rules}
 use Rattle.source_step.proofs.reset.Goals as goal
 
 pub returns : goal.returns

@@ -1,6 +1,5 @@
 -- What the outcome leaves is what is right. Assumes nothing.
 use mathlib.Core.Path.{◌∙◌}
-use borrow.Author.Rules.{rules}
 use Rattle.source_step.proofs.step.Goals as goal
 
 pub returns : goal.returns

@@ -1,12 +1,10 @@
 -- The loop is the fold: what is due after the rest of the bytes stays what is due after all of them.
-use mathlib.Core.Path.{◌≡◌, ◌∙◌, ap}
+use mathlib.Core.Path.{◌≡◌}
 use mathlib.Core.List.{[]}
 use Prim.Native.Nat.{◌≤◌, ◌-◌}
-use lib.ListN.{length, drop, drop_of_length-le}
-use Rattle.rules_leaves.specs.Utf8.{wants, due_after, complete, is_utf8}
+use lib.ListN.{length, drop}
+use Rattle.rules_leaves.specs.Utf8.{wants, due_after}
 use Rattle.utf8.specs.Meant.{meant}
-use Rattle.utf8.proofs.Steps.{due-step}
-use borrow.Author.Rules.{rules}
 use Rattle.utf8.proofs.is_utf8.Given as goal
 
 abbrev pub invariant-loop-i : goal.invariant-loop-i

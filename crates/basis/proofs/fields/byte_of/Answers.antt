@@ -2,7 +2,6 @@
 use mathlib.Core.Path.{sym}
 use native.Mathlib.Omega.{arith}
 use Rattle.basis.proofs.Bytes.{high_byte}
-use borrow.Author.Rules.{rules}
 use Rattle.basis.proofs.fields.byte_of.Goals as goal
 
 pub returns-then-k-ge8 : goal.returns-then-k-ge8

@@ -1,9 +1,8 @@
 -- `num`: the number so far with the bytes left is the number of all; it fits as many bytes as were read.
 use mathlib.Core.Path.{◌≡◌}
-use Prim.Native.Nat.{◌≤◌, ◌<◌, ◌-◌, ◌*◌, ◌^◌}
 use native.Mathlib.Omega.{arith}
-use lib.ListN.{length, drop, drop_of_length-le}
-use Rattle.basis.specs.Bytes.{num_from, num as num_of}
+use lib.ListN.{length, drop_of_length-le}
+use Rattle.basis.specs.Bytes.{num as num_of}
 use Rattle.basis.proofs.Bytes.{num-step, num-fits, num-grows}
 use borrow.Author.Rules.{rules}
 use Rattle.basis.proofs.fields.num.Goals as goal

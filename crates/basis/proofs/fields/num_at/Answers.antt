@@ -2,7 +2,6 @@
 use mathlib.Core.Path.{◌∙◌}
 use lib.Pow.{pow_pos}
 use Rattle.basis.proofs.Bytes.{num-past, num-part, part_le}
-use borrow.Author.Rules.{rules}
 use Rattle.basis.proofs.fields.num_at.Goals as goal
 
 pub returns-then-s-at : goal.returns-then-s-at

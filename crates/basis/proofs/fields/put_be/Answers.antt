@@ -1,10 +1,7 @@
 -- `put_be`: one byte and four are laid as they stand; in the loop, what is laid so far, and the bytes still to lay over it, are the whole number laid.
-use mathlib.Core.Path.{◌≡◌, ◌∙◌, sym}
-use Prim.Native.Nat.{◌≤◌, ◌+◌}
+use mathlib.Core.Path.{◌∙◌, sym}
 use native.Mathlib.Omega.{arith}
-use lib.ListN.{length, length-set}
-use Rattle.basis.specs.Bytes.{be}
-use Rattle.basis.specs.Laid.{laid}
+use lib.ListN.{length-set}
 use Rattle.basis.proofs.Laid.{be-step, be-done, be-one, be-four}
 use borrow.Author.Rules.{rules}
 use Rattle.basis.proofs.fields.put_be.Goals as goal

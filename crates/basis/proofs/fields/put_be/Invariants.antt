@@ -1,12 +1,9 @@
 -- `put_be`: one byte and four are laid as they stand; in the loop, what is laid so far, and the bytes still to lay over it, are the whole number laid.
-use mathlib.Core.Path.{◌≡◌, ◌∙◌, sym}
+use mathlib.Core.Path.{◌≡◌}
 use Prim.Native.Nat.{◌≤◌, ◌+◌}
-use native.Mathlib.Omega.{arith}
-use lib.ListN.{length, length-set}
+use lib.ListN.{length}
 use Rattle.basis.specs.Bytes.{be}
 use Rattle.basis.specs.Laid.{laid}
-use Rattle.basis.proofs.Laid.{be-step, be-done, be-one, be-four}
-use borrow.Author.Rules.{rules}
 use Rattle.basis.proofs.fields.put_be.Given as goal
 
 abbrev pub invariant-loop-k : goal.invariant-loop-k

@@ -1,9 +1,6 @@
 -- `put_run`: what is laid so far, and the rest of the run, are the whole run laid.
-use mathlib.Core.Path.{◌≡◌, ◌∙◌, sym}
-use Prim.Native.Nat.{◌≤◌, ◌+◌, ◌-◌}
+use mathlib.Core.Path.{◌∙◌, sym}
 use native.Mathlib.Nat.{add-zero}
-use lib.ListN.{length, drop}
-use Rattle.basis.specs.Laid.{laid}
 use Rattle.basis.proofs.Laid.{run_step, run-done}
 use borrow.Author.Rules.{rules}
 use Rattle.basis.proofs.fields.put_run.Goals as goal

@@ -1,11 +1,8 @@
 -- `put_run`: what is laid so far, and the rest of the run, are the whole run laid.
-use mathlib.Core.Path.{◌≡◌, ◌∙◌, sym}
+use mathlib.Core.Path.{◌≡◌}
 use Prim.Native.Nat.{◌≤◌, ◌+◌, ◌-◌}
-use native.Mathlib.Nat.{add-zero}
 use lib.ListN.{length, drop}
 use Rattle.basis.specs.Laid.{laid}
-use Rattle.basis.proofs.Laid.{run_step, run-done}
-use borrow.Author.Rules.{rules}
 use Rattle.basis.proofs.fields.put_run.Given as goal
 
 abbrev pub invariant-loop-i : goal.invariant-loop-i

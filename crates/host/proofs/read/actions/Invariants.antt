@@ -1,6 +1,5 @@
 -- `actions`: safe, and it ends.
 use Prim.Native.Nat.{◌-◌, ◌≤◌}
-use borrow.Author.Rules.{rules}
 use Rattle.host.proofs.read.actions.Given as goal
 
 abbrev pub invariant-loop-i : goal.invariant-loop-i

@@ -2,7 +2,6 @@
 use Rattle.basis.proofs.Pick.{picks, told}
 use Rattle.basis.specs.Bytes.{byte}
 use Rattle.rules_pdu.specs.Reading.{ack_in}
-use borrow.Author.Rules.{rules}
 use Rattle.pdu_read.proofs.ack.ack_in.Goals as goal
 
 pub returns-then-b-ne3 : goal.returns-then-b-ne3

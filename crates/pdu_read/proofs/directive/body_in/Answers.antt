@@ -2,7 +2,6 @@
 use Rattle.basis.proofs.Pick.{picks}
 use Rattle.basis.specs.Bytes.{byte}
 use Rattle.rules_pdu.specs.Reading.{body_of}
-use borrow.Author.Rules.{rules}
 use Rattle.pdu_read.proofs.directive.body_in.Goals as goal
 
 pub returns-then-f : goal.returns-then-f

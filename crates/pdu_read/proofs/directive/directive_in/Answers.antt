@@ -1,7 +1,6 @@
 -- Each arm of the match is the definition at its code; the last, at none of the seven.
 use Rattle.basis.proofs.Pick.{picks}
 use Rattle.rules_pdu.specs.Reading.{directive_in}
-use borrow.Author.Rules.{rules}
 use Rattle.pdu_read.proofs.directive.directive_in.Goals as goal
 
 pub returns-in-4 : goal.returns-in-4

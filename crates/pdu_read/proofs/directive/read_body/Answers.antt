@@ -1,5 +1,4 @@
 -- The part that the places cut out is the definition's, since the cut and its width are.
-use borrow.Author.Rules.{rules}
 use Rattle.pdu_read.proofs.directive.read_body.Goals as goal
 
 pub returns : goal.returns

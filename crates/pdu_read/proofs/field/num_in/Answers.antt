@@ -1,7 +1,6 @@
 -- The slice from the place on, as long as the width, is the part.
 use native.Mathlib.Nat.{add-sub_cancel_left}
 use Rattle.basis.specs.Bytes.{part, num_at}
-use borrow.Author.Rules.{rules}
 use Rattle.pdu_read.proofs.field.num_in.Goals as goal
 
 pub returns : goal.returns

@@ -1,6 +1,5 @@
 -- At most eight bytes are asked for, so all of them count.
 use Rattle.pdu_read.proofs.Fields.{all-count}
-use borrow.Author.Rules.{rules}
 use Rattle.pdu_read.proofs.field.num_of.Goals as goal
 
 pub returns : goal.returns

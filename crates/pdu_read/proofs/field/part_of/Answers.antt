@@ -1,6 +1,5 @@
 -- A cut behind the end is a cut at the end, and past the end nothing is there.
 use Rattle.pdu_read.proofs.Fields.{part-past, part-rest, part_inside}
-use borrow.Author.Rules.{rules}
 use Rattle.pdu_read.proofs.field.part_of.Goals as goal
 
 pub returns-then-s-at : goal.returns-then-s-at

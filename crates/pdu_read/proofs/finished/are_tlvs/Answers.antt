@@ -1,11 +1,8 @@
 -- The invariant: what the run comes to from here, at the place found so far, is what it comes to from the start.
-use mathlib.Core.Path.{◌≡◌, ◌∙◌, ap}
-use Prim.Native.Nat.{◌-◌}
-use lib.ListN.{length, drop, drop_of_length-le}
-use Rattle.rules_pdu.specs.Reading.{at_type, tlv_after, closed, are_tlvs}
-use Rattle.pdu_read.specs.Tlv.{meant}
+use mathlib.Core.Path.{◌∙◌, ap}
+use lib.ListN.{drop_of_length-le}
+use Rattle.rules_pdu.specs.Reading.{closed, are_tlvs}
 use Rattle.pdu_read.proofs.Tlvs.{tlv-step}
-use borrow.Author.Rules.{rules}
 use Rattle.pdu_read.proofs.finished.are_tlvs.Goals as goal
 
 pub loop-i-preserved : goal.loop-i-preserved

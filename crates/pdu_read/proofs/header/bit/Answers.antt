@@ -4,7 +4,6 @@ use Prim.Native.Nat.{ℕ, ◌/◌, ◌^◌}
 use lib.Bits.{and_mask}
 use lib.Dec.{eqb}
 use Rattle.rules_pdu.specs.Reading.{bit_in}
-use borrow.Author.Rules.{rules}
 use Rattle.pdu_read.proofs.header.bit.Goals as goal
 
 pub returns : goal.returns

@@ -1,7 +1,6 @@
 -- The two numbers compared are the definition's, since the place they meet at is.
 use Rattle.basis.specs.Bytes.{part}
 use Rattle.rules_pdu.specs.Reading.{crc_agrees}
-use borrow.Author.Rules.{rules}
 use Rattle.pdu_read.proofs.header.crc_agrees.Goals as goal
 
 pub returns : goal.returns

@@ -1,7 +1,6 @@
 -- Without the flag any CRC is good; with it, one that has its room and agrees.
 use Rattle.basis.proofs.Pick.{picks, told, via}
 use Rattle.rules_pdu.specs.Reading.{crc_good}
-use borrow.Author.Rules.{rules}
 use Rattle.pdu_read.proofs.header.crc_good.Goals as goal
 
 pub returns-then-not-has_crc : goal.returns-then-not-has_crc

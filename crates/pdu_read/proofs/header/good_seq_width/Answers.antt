@@ -1,5 +1,4 @@
 -- The width judged is the definition's.
-use borrow.Author.Rules.{rules}
 use Rattle.pdu_read.proofs.header.good_seq_width.Goals as goal
 
 pub returns : goal.returns

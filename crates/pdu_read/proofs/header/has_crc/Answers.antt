@@ -1,6 +1,5 @@
 -- Bit 1 of byte 0.
 use Rattle.rules_pdu.specs.Reading.{crc_in}
-use borrow.Author.Rules.{rules}
 use Rattle.pdu_read.proofs.header.has_crc.Goals as goal
 
 pub returns : goal.returns

@@ -1,6 +1,5 @@
 -- Field by field what the callees say.
 use Rattle.rules_pdu.specs.Reading.{head_in, unacknowledged_in, crc_in, large_in}
-use borrow.Author.Rules.{rules}
 use Rattle.pdu_read.proofs.header.head_in.Goals as goal
 
 pub returns : goal.returns

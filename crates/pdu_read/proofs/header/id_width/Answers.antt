@@ -3,7 +3,6 @@ use Prim.Native.Nat.{◌/◌}
 use native.Mathlib.Omega.{arith}
 use lib.Bits.{and_mask, mask_lt}
 use Rattle.rules_pdu.specs.Reading.{id_width_in}
-use borrow.Author.Rules.{rules}
 use Rattle.pdu_read.proofs.header.id_width.Goals as goal
 
 pub overflow_add-result : goal.overflow_add-result

@@ -2,7 +2,6 @@
 use Rattle.basis.proofs.Pick.{picks, told}
 use Rattle.rules_pdu.specs.Reading.{framed_in}
 use Rattle.pdu_read.proofs.Framed.{head-there}
-use borrow.Author.Rules.{rules}
 use Rattle.pdu_read.proofs.header.read_header.Goals as goal
 
 pub frame_in-f-requires : goal.frame_in-f-requires

@@ -2,7 +2,6 @@
 use native.Mathlib.Omega.{arith}
 use lib.Bits.{and_mask, mask_lt}
 use Rattle.rules_pdu.specs.Reading.{seq_width_in}
-use borrow.Author.Rules.{rules}
 use Rattle.pdu_read.proofs.header.seq_width.Goals as goal
 
 pub overflow_add-result : goal.overflow_add-result

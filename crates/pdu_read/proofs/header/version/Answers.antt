@@ -1,6 +1,5 @@
 -- A shift by five divides by 32.
 use Rattle.rules_pdu.specs.Reading.{version_in}
-use borrow.Author.Rules.{rules}
 use Rattle.pdu_read.proofs.header.version.Goals as goal
 
 pub returns : goal.returns

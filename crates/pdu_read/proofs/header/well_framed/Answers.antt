@@ -1,7 +1,6 @@
 -- The definition's tests, said by what the callees found, are the tests that the code made.
 use Rattle.basis.proofs.Pick.{picks, told, via}
 use Rattle.rules_pdu.specs.Reading.{well_framed}
-use borrow.Author.Rules.{rules}
 use Rattle.pdu_read.proofs.header.well_framed.Goals as goal
 
 pub returns-then-s-lt4 : goal.returns-then-s-lt4

@@ -1,7 +1,6 @@
 -- The definition, said by the width that the callee gave, is the test that the code made.
 use Rattle.basis.proofs.Pick.{picks}
 use Rattle.rules_pdu.specs.Reading.{keep_alive_in}
-use borrow.Author.Rules.{rules}
 use Rattle.pdu_read.proofs.keep_alive.keep_alive_in.Goals as goal
 
 pub returns-then-b-f : goal.returns-then-b-f

@@ -1,7 +1,6 @@
 -- The definition, said by the width that the callee gave, is the tests that the code made.
 use Rattle.basis.proofs.Pick.{picks}
 use Rattle.rules_pdu.specs.Reading.{nak_in, request_count}
-use borrow.Author.Rules.{rules}
 use Rattle.pdu_read.proofs.nak.nak_in.Goals as goal
 
 pub returns-then-b-scope : goal.returns-then-b-scope

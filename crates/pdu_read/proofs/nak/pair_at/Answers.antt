@@ -2,7 +2,6 @@
 use native.Mathlib.Omega.{arith}
 use Rattle.pdu_read.specs.Reader.{pair_at}
 use Rattle.pdu_read.proofs.Pairs.{behind}
-use borrow.Author.Rules.{rules}
 use Rattle.pdu_read.proofs.nak.pair_at.Goals as goal
 
 pub returns : goal.returns

@@ -2,7 +2,6 @@
 use native.Mathlib.Nat.{min-eq_right}
 use Rattle.rules_pdu.specs.Reading.{request_at}
 use Rattle.pdu_read.specs.Reader.{pair_at}
-use borrow.Author.Rules.{rules}
 use Rattle.pdu_read.proofs.nak.pair_cut.Goals as goal
 
 pub returns : goal.returns

@@ -1,7 +1,6 @@
 -- The numbers of four bytes that were read, by twos where they are large, are the pair's.
 use native.Mathlib.Omega.{arith}
 use Rattle.pdu_read.proofs.Pairs.{large-room, whole-large, whole-small}
-use borrow.Author.Rules.{rules}
 use Rattle.pdu_read.proofs.nak.request_whole.Goals as goal
 
 pub four-c-requires : goal.four-c-requires

@@ -2,7 +2,6 @@
 use native.Mathlib.Omega.{arith}
 use mathlib.Core.Path.{◌∙◌}
 use Rattle.basis.proofs.Bytes.{num-past}
-use borrow.Author.Rules.{rules}
 use Rattle.pdu_read.proofs.nak.size_behind.Goals as goal
 
 pub returns-then-s-at : goal.returns-then-s-at

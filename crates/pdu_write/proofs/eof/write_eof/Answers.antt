@@ -2,7 +2,6 @@
 use native.Mathlib.Omega.{arith}
 use Rattle.pdu_write.proofs.Frame.{refused, written}
 use Rattle.rules_pdu.specs.Layout.{pdu_length, eof}
-use borrow.Author.Rules.{rules}
 use Rattle.pdu_write.proofs.eof.write_eof.Goals as goal
 
 pub returns-then-out-head_length : goal.returns-then-out-head_length

@@ -1,7 +1,6 @@
 -- Header, body and CRC one behind the other are the PDU, and what it fits in has room for each. Assumes nothing.
 use native.Mathlib.Omega.{arith}
 use Rattle.pdu_write.proofs.Frame.{has_room, placed}
-use borrow.Author.Rules.{rules}
 use Rattle.pdu_write.proofs.file_data.put_piece.Goals as goal
 
 pub put_head-a-requires : goal.put_head-a-requires

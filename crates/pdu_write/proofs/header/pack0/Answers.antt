@@ -1,7 +1,6 @@
 -- Byte 0 by shifts and ors is the sum of its bits. Assumes nothing.
 use mathlib.Core.Path.{◌∙◌}
 use Rattle.pdu_write.proofs.Packs.{packed0}
-use borrow.Author.Rules.{rules}
 use Rattle.pdu_write.proofs.header.pack0.Goals as goal
 
 pub returns : goal.returns

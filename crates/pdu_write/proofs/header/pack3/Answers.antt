@@ -1,6 +1,5 @@
 -- Byte 3 by masks, a shift and an or is the sum of its parts. Assumes nothing.
 use Rattle.pdu_write.proofs.Packs.{packed3}
-use borrow.Author.Rules.{rules}
 use Rattle.pdu_write.proofs.header.pack3.Goals as goal
 
 pub returns : goal.returns

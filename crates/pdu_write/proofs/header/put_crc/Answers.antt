@@ -3,7 +3,6 @@ use mathlib.Core.Path.{sym}
 use native.Mathlib.Omega.{arith}
 use lib.Seq.{length-take-le}
 use Rattle.pdu_write.proofs.Frame.{crc-put, crc-left}
-use borrow.Author.Rules.{rules}
 use Rattle.pdu_write.proofs.header.put_crc.Goals as goal
 
 pub slice_bounds-crc16-end-then-crc : goal.slice_bounds-crc16-end-then-crc

@@ -2,7 +2,6 @@
 use native.Mathlib.Omega.{arith}
 use Rattle.basis.proofs.Laid.{field, run, last-run}
 use Rattle.rules_pdu.specs.Layout.{body_bytes}
-use borrow.Author.Rules.{rules}
 use Rattle.pdu_write.proofs.metadata.put_metadata.Goals as goal
 
 pub returns : goal.returns

@@ -2,7 +2,6 @@
 use native.Mathlib.Omega.{arith}
 use Rattle.pdu_write.proofs.Frame.{refused, written}
 use Rattle.rules_pdu.specs.Layout.{pdu_length, metadata}
-use borrow.Author.Rules.{rules}
 use Rattle.pdu_write.proofs.metadata.write_metadata.Goals as goal
 
 pub returns-then-out-source : goal.returns-then-out-source

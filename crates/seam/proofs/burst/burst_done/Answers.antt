@@ -1,7 +1,6 @@
 -- What the loop came to is what is right. Assumes nothing.
 use mathlib.Core.Path.{◌∙◌}
 use Rattle.seam.proofs.Running.{ran_done-by}
-use borrow.Author.Rules.{rules}
 use Rattle.seam.proofs.burst.burst_done.Goals as goal
 
 pub returns : goal.returns

@@ -1,6 +1,5 @@
 -- By the count. Assumes nothing.
 use Rattle.basis.proofs.Pick.{picks}
-use borrow.Author.Rules.{rules}
 use Rattle.seam.proofs.burst.held_by.Goals as goal
 
 pub returns-then-m-gt0 : goal.returns-then-m-gt0

@@ -1,5 +1,4 @@
 -- Part by part. Assumes nothing.
-use borrow.Author.Rules.{rules}
 use Rattle.seam.proofs.burst.ran_done.Goals as goal
 
 pub returns : goal.returns

@@ -4,7 +4,6 @@ use Prim.Native.Nat.{◌-◌}
 use borrow.Author.Rules.{rules}
 use Rattle.seam_rules.specs.Memory.{flag_of}
 use mathlib.Core.Path.{◌≡◌, sym, ap, ◌∙◌}
-use mathlib.Core.Logic.{⊎_elim}
 use mathlib.Core.List.{◌++◌}
 use lib.ListN.{length, take, drop, length-drop}
 use borrow.Rule.Slice.PartMut.{mid_of}
@@ -12,7 +11,7 @@ use Rattle.rules.specs.Step.{step_outcome, step_bytes}
 use Rattle.seam_rules.specs.Memory.{state_of}
 use Rattle.source_step.proofs.Bursting.{part-rest}
 use Rattle.seam.proofs.Pieces.{piece-more, piece-whole}
-use Rattle.seam.proofs.Running.{Turned, next_flag, Runs, starts, room-told, again-quiet, again-more, again-refused, flag-first, flag-later, gives_step, gives_piece, ends}
+use Rattle.seam.proofs.Running.{Turned, next_flag, starts, room-told, again-quiet, again-more, again-refused, flag-first, flag-later, gives_step, gives_piece, ends}
 use Rattle.seam.proofs.burst.run.Goals as goal
 use Rattle.seam.proofs.burst.run.Goals.{then-is_piece, else-is_piece, then-k-eq0, else-k-eq0}
 

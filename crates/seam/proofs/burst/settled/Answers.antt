@@ -1,6 +1,5 @@
 -- Taken out and stored again. Assumes nothing.
 use Rattle.seam.specs.Running.{settled}
-use borrow.Author.Rules.{rules}
 use Rattle.seam.proofs.burst.settled.Goals as goal
 
 pub returns : goal.returns

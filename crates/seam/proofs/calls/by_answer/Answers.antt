@@ -1,5 +1,4 @@
 -- By the answer.
-use borrow.Author.Rules.{rules}
 use Rattle.seam.proofs.calls.by_answer.Goals as goal
 
 pub returns-in-Accepted : goal.returns-in-Accepted

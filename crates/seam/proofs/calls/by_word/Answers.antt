@@ -1,6 +1,5 @@
 -- By the word.
 use Rattle.basis.proofs.Pick.{picks}
-use borrow.Author.Rules.{rules}
 use Rattle.seam.proofs.calls.by_word.Goals as goal
 
 pub returns-then-d : goal.returns-then-d

@@ -1,6 +1,5 @@
 -- The call of `source` between what is taken and what is stored.
 use Rattle.seam_rules.specs.Seam.{cancel_done}
-use borrow.Author.Rules.{rules}
 use Rattle.seam.proofs.calls.cancel_done.Goals as goal
 
 pub returns : goal.returns

@@ -1,5 +1,4 @@
 -- What is stored.
-use borrow.Author.Rules.{rules}
 use Rattle.seam.proofs.calls.stored.Goals as goal
 
 pub returns : goal.returns

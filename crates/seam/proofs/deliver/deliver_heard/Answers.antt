@@ -4,7 +4,6 @@ use Rattle.seam_rules.specs.Memory.{no_report}
 use Rattle.seam_rules.specs.Seam.{by_answer, reporting, deliver_done}
 use Rattle.types.specs.declared.Delivered.{Delivered}
 use Rattle.seam.proofs.Both.{heard-done}
-use borrow.Author.Rules.{rules}
 use Rattle.seam.proofs.deliver.deliver_heard.Goals as goal
 
 pub returns : goal.returns

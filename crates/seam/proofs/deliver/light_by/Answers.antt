@@ -1,5 +1,4 @@
 -- By the answer.
-use borrow.Author.Rules.{rules}
 use Rattle.seam.proofs.deliver.light_by.Goals as goal
 
 pub returns-in-Accepted : goal.returns-in-Accepted

@@ -1,5 +1,4 @@
 -- What each callee gave is its definition.
-use borrow.Author.Rules.{rules}
 use Rattle.seam.proofs.deliver.queue_held.Goals as goal
 
 pub returns : goal.returns

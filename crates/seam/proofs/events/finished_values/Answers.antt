@@ -1,5 +1,4 @@
 -- By the event.
-use borrow.Author.Rules.{rules}
 use Rattle.seam.proofs.events.finished_values.Goals as goal
 
 pub returns-in-NotFinished : goal.returns-in-NotFinished

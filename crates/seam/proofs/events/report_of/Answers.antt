@@ -1,6 +1,5 @@
 -- Field by field.
 use Rattle.seam_rules.specs.Memory.{reported}
-use borrow.Author.Rules.{rules}
 use Rattle.seam.proofs.events.report_of.Goals as goal
 
 pub returns : goal.returns

@@ -1,6 +1,5 @@
 -- Field by field, what each callee gave.
 use Rattle.seam.specs.Parts.{light_of}
-use borrow.Author.Rules.{rules}
 use Rattle.seam.proofs.light.light_of.Goals as goal
 
 pub returns : goal.returns

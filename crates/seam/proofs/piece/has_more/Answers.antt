@@ -1,6 +1,5 @@
 -- The same tests in the same order.
 use Rattle.basis.proofs.Pick.{picks}
-use borrow.Author.Rules.{rules}
 use Rattle.seam.specs.Pieces.{has_more}
 use Rattle.seam.proofs.piece.has_more.Goals as goal
 

@@ -2,7 +2,6 @@
 use mathlib.Core.Path.{refl}
 use mathlib.Core.List.{[]}
 use Rattle.basis.proofs.Pick.{picks}
-use borrow.Author.Rules.{rules}
 use Rattle.seam.specs.Pieces.{bare_length, has_room}
 use Rattle.seam.proofs.piece.has_room.Goals as goal
 

@@ -1,7 +1,6 @@
 -- The same tests in the same order.
 use Rattle.basis.proofs.Pick.{picks, told}
 use Rattle.seam.specs.Pieces.{is_piece}
-use borrow.Author.Rules.{rules}
 use Rattle.seam.proofs.piece.is_piece.Goals as goal
 
 pub returns-then-not-serves : goal.returns-then-not-serves

@@ -1,6 +1,5 @@
 -- The start moved lies before the request's end, and the piece in the file; the rest field by field.
 use native.Mathlib.Omega.{arith}
-use borrow.Author.Rules.{rules}
 use Rattle.basis.proofs.Pick.{picks}
 use Rattle.rules.specs.Queues.{oldest}
 use Rattle.seam.specs.Pieces.{piece_held}

@@ -1,6 +1,5 @@
 -- The oldest is the first place's.
 use Rattle.basis.proofs.Pick.{picks}
-use borrow.Author.Rules.{rules}
 use Rattle.rules.specs.Queues.{oldest}
 use Rattle.seam.specs.Pieces.{request_due}
 use Rattle.seam.proofs.piece.request_due.Goals as goal

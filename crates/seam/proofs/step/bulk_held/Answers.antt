@@ -1,5 +1,4 @@
 -- By what moves.
-use borrow.Author.Rules.{rules}
 use Rattle.seam.proofs.step.bulk_held.Goals as goal
 
 pub returns-in-Kept : goal.returns-in-Kept

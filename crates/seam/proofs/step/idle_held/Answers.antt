@@ -1,5 +1,4 @@
 -- Idle, stored.
-use borrow.Author.Rules.{rules}
 use Rattle.seam.proofs.step.idle_held.Goals as goal
 
 pub returns : goal.returns

@@ -1,5 +1,4 @@
 -- The light part is what was there.
-use borrow.Author.Rules.{rules}
 use Rattle.seam.proofs.step.kept.Goals as goal
 
 pub returns : goal.returns

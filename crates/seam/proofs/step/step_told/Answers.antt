@@ -6,7 +6,6 @@ use Rattle.types.specs.declared.State.{State}
 use Rattle.types.specs.declared.Stepped.{Stepped}
 use Rattle.seam.specs.Told.{told_by, told_done}
 use Rattle.seam.proofs.Both.{told-done}
-use borrow.Author.Rules.{rules}
 use Rattle.seam.proofs.step.step_told.Goals as goal
 
 pub returns : goal.returns

@@ -1,6 +1,5 @@
 -- Field by field.
 use Rattle.seam_rules.specs.Memory.{fixed_stored}
-use borrow.Author.Rules.{rules}
 use Rattle.seam.proofs.stored.fixed_stored.Goals as goal
 
 pub returns : goal.returns

@@ -1,6 +1,5 @@
 -- Group by group.
 use Rattle.seam_rules.specs.Memory.{held_of}
-use borrow.Author.Rules.{rules}
 use Rattle.seam.proofs.stored.held_of.Goals as goal
 
 pub returns : goal.returns

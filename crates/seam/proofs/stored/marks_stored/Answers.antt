@@ -1,6 +1,5 @@
 -- Field by field.
 use Rattle.seam_rules.specs.Memory.{marks_stored}
-use borrow.Author.Rules.{rules}
 use Rattle.seam.proofs.stored.marks_stored.Goals as goal
 
 pub returns : goal.returns

@@ -1,6 +1,5 @@
 -- Field by field.
 use Rattle.seam_rules.specs.Memory.{config_of}
-use borrow.Author.Rules.{rules}
 use Rattle.seam.proofs.taken.config_of.Goals as goal
 
 pub returns : goal.returns

@@ -1,6 +1,5 @@
 -- Field by field.
 use Rattle.seam_rules.specs.Memory.{fixed_taken}
-use borrow.Author.Rules.{rules}
 use Rattle.seam.proofs.taken.fixed_taken.Goals as goal
 
 pub returns : goal.returns

@@ -1,6 +1,5 @@
 -- Field by field.
 use Rattle.seam_rules.specs.Memory.{head_taken}
-use borrow.Author.Rules.{rules}
 use Rattle.seam.proofs.taken.head_taken.Goals as goal
 
 pub returns : goal.returns

@@ -1,6 +1,5 @@
 -- Field by field.
 use Rattle.seam_rules.specs.Memory.{remote_of}
-use borrow.Author.Rules.{rules}
 use Rattle.seam.proofs.taken.remote_of.Goals as goal
 
 pub returns : goal.returns

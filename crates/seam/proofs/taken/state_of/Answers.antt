@@ -1,6 +1,5 @@
 -- Group by group.
 use Rattle.seam_rules.specs.Memory.{state_of}
-use borrow.Author.Rules.{rules}
 use Rattle.seam.proofs.taken.state_of.Goals as goal
 
 pub returns : goal.returns

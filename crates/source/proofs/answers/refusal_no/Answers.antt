@@ -1,5 +1,4 @@
 -- Case by case. Assumes nothing.
-use borrow.Author.Rules.{rules}
 use Rattle.source.proofs.answers.refusal_no.Goals as goal
 
 pub returns-in-AlreadyBusy : goal.returns-in-AlreadyBusy

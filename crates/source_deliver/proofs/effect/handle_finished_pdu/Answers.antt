@@ -1,5 +1,4 @@
 -- Each group of the state is the definition's.
-use borrow.Author.Rules.{rules}
 use Rattle.source_deliver.proofs.effect.handle_finished_pdu.Goals as goal
 
 pub returns : goal.returns

@@ -1,5 +1,4 @@
 -- Each arm is the definition's clause.
-use borrow.Author.Rules.{rules}
 use Rattle.source_deliver.proofs.effect.moved_by.Goals as goal
 
 pub returns-in-Refuse : goal.returns-in-Refuse

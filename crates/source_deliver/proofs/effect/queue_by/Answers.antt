@@ -1,5 +1,4 @@
 -- Each arm is the definition's clause.
-use borrow.Author.Rules.{rules}
 use Rattle.source_deliver.proofs.effect.queue_by.Goals as goal
 
 pub returns-in-Enqueue : goal.returns-in-Enqueue

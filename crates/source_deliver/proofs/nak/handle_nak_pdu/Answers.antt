@@ -2,7 +2,6 @@
 use mathlib.Core.Path.{ap, ◌∙◌}
 use Rattle.source_deliver.specs.Ways.{nak_done}
 use Rattle.source_deliver.proofs.Requests.{stops}
-use borrow.Author.Rules.{rules}
 use Rattle.source_deliver.proofs.nak.handle_nak_pdu.Goals as goal
 
 pub returns : goal.returns

@@ -1,7 +1,6 @@
 -- The branch that the code took is the definition's; what each callee gave is its definition.
 use Rattle.basis.proofs.Pick.{picks, told, via}
 use Rattle.source_deliver.specs.Ways.{nak_done}
-use borrow.Author.Rules.{rules}
 use Rattle.source_deliver.proofs.nak.handle_retransmission.Goals as goal
 
 pub returns-then-not-takes_nak : goal.returns-then-not-takes_nak

@@ -3,7 +3,6 @@ use mathlib.Core.Path.{ap}
 use Rattle.types.specs.declared.Row.{Row}
 use Rattle.rules.specs.Deliver.{verdict_of}
 use Rattle.source_deliver.proofs.Rows.{row_is}
-use borrow.Author.Rules.{rules}
 use Rattle.source_deliver.proofs.table.verdict_of.Goals as goal
 
 pub returns-in-Finished : goal.returns-in-Finished

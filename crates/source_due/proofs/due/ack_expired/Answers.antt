@@ -1,7 +1,6 @@
 -- Each way out is one branch of the definition. Assumes nothing.
 use Rattle.basis.proofs.Pick.{picks, told}
 use Rattle.rules.specs.Step.{ack_expired}
-use borrow.Author.Rules.{rules}
 use Rattle.source_due.proofs.due.ack_expired.Goals as goal
 
 pub returns-then-not-expired : goal.returns-then-not-expired

@@ -1,7 +1,6 @@
 -- Abandon by the mark, else the array's element. Assumes nothing.
 use Rattle.basis.proofs.Pick.{picks}
 use Rattle.rules.specs.Step.{action_for}
-use borrow.Author.Rules.{rules}
 use Rattle.source_due.proofs.due.action_for.Goals as goal
 
 pub returns-then-s : goal.returns-then-s

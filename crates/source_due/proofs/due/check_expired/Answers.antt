@@ -1,7 +1,6 @@
 -- Each way out is one branch of the definition. Assumes nothing.
 use Rattle.basis.proofs.Pick.{picks}
 use Rattle.rules.specs.Step.{check_expired}
-use borrow.Author.Rules.{rules}
 use Rattle.source_due.proofs.due.check_expired.Goals as goal
 
 pub returns-then-not-s : goal.returns-then-not-s

@@ -1,7 +1,6 @@
 -- The case by the action that action_for gave. Assumes nothing.
 use Rattle.basis.proofs.Pick.{picks, via}
 use Rattle.rules.specs.Step.{fault_due}
-use borrow.Author.Rules.{rules}
 use Rattle.source_due.proofs.due.declare_fault.Goals as goal
 
 pub returns-then-action-eq1 : goal.returns-then-action-eq1

@@ -1,7 +1,6 @@
 -- The owed EOF, then the queue, then the step. Assumes nothing.
 use Rattle.basis.proofs.Pick.{picks, told}
 use Rattle.rules.specs.Step.{due_of}
-use borrow.Author.Rules.{rules}
 use Rattle.source_due.proofs.due.due_of.Goals as goal
 
 pub returns-then-eof_owed : goal.returns-then-eof_owed

@@ -1,5 +1,4 @@
 -- The count and the limit widened, then compared. Assumes nothing.
-use borrow.Author.Rules.{rules}
 use Rattle.source_due.proofs.due.limit_reached.Goals as goal
 
 pub returns : goal.returns

@@ -1,6 +1,5 @@
 -- The two places are cut at the file's end, which changes no byte of the part. Assumes nothing.
 use Rattle.source_due.proofs.Parts.{cut}
-use borrow.Author.Rules.{rules}
 use Rattle.source_due.proofs.emit.emit_file_data.Goals as goal
 
 pub returns : goal.returns

@@ -1,5 +1,4 @@
 -- The closure bit as closure_bit gives it; the rest is the writer's. Assumes nothing.
-use borrow.Author.Rules.{rules}
 use Rattle.source_due.proofs.emit.emit_metadata.Goals as goal
 
 pub returns : goal.returns

@@ -1,7 +1,6 @@
 -- Metadata or a piece, as is_metadata says. Assumes nothing.
 use Rattle.basis.proofs.Pick.{picks, told}
 use Rattle.rules.specs.Step.{repair_of}
-use borrow.Author.Rules.{rules}
 use Rattle.source_due.proofs.sending.repair_of.Goals as goal
 
 pub returns-then-is_metadata : goal.returns-then-is_metadata

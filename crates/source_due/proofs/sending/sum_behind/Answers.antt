@@ -1,7 +1,6 @@
 -- The two places are cut at the file's end, as where the piece is written: the same bytes. Assumes nothing.
 use Rattle.source_due.proofs.Parts.{cut}
 use Rattle.rules.specs.Step.{sum_behind}
-use borrow.Author.Rules.{rules}
 use Rattle.source_due.proofs.sending.sum_behind.Goals as goal
 
 pub returns : goal.returns

@@ -1,13 +1,10 @@
 -- What was found, and what is found in the rest, is what is found in all of them.
-use mathlib.Core.Path.{◌≡◌, sym, ◌∙◌}
+use mathlib.Core.Path.{◌≡◌}
 use mathlib.Core.Bool.{true}
 use Prim.Native.Nat.{◌+◌, ◌≤◌}
 use Rattle.basis.specs.Pick.{pick}
 use Rattle.rules_pdu.specs.Reading.{requests_from}
-use Rattle.pdu_read.specs.Reader.{pair_at}
 use Rattle.rules.specs.Queues.{any_invalid, owing}
-use Rattle.source_queue.proofs.Requests.{bad_turn, bad-end, owing_turn, owing-end}
-use borrow.Author.Rules.{rules}
 use Rattle.source_queue.proofs.nak.judge.Given as goal
 
 abbrev pub invariant-loop-k : goal.invariant-loop-k

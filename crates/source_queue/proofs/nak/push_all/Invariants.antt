@@ -1,11 +1,7 @@
 -- The rest of the requests pushed behind what is there gives what all of them give.
-use mathlib.Core.Path.{◌≡◌, sym, ◌∙◌}
-use mathlib.Core.Logic.{⊎_elim}
+use mathlib.Core.Path.{◌≡◌}
 use Rattle.rules_pdu.specs.Reading.{requests_from}
-use Rattle.pdu_read.specs.Reader.{pair_at}
-use Rattle.rules.specs.Queues.{push_owed, push_all}
-use Rattle.source_queue.proofs.Requests.{room, pushed, unpushed, push_turn, push-end}
-use borrow.Author.Rules.{rules}
+use Rattle.rules.specs.Queues.{push_all}
 use Rattle.source_queue.proofs.nak.push_all.Given as goal
 
 abbrev pub invariant-loop-k : goal.invariant-loop-k

@@ -1,6 +1,5 @@
 -- Two tests. Assumes nothing.
 use Rattle.basis.proofs.Pick.{picks, told}
-use borrow.Author.Rules.{rules}
 use Rattle.source_queue.proofs.nak.takes_place.Goals as goal
 
 pub returns-then-owes : goal.returns-then-owes

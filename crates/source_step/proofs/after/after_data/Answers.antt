@@ -1,7 +1,6 @@
 -- Progress moved by the next length; the step by whether that is the size. Assumes nothing.
 use Rattle.basis.proofs.Pick.{picks}
 use Rattle.rules.specs.Step.{after_data}
-use borrow.Author.Rules.{rules}
 use Rattle.source_step.proofs.after.after_data.Goals as goal
 
 pub returns-then-p-s : goal.returns-then-p-s

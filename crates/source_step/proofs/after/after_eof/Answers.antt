@@ -1,7 +1,6 @@
 -- By the mode, then by closure. Assumes nothing.
 use Rattle.basis.proofs.Pick.{picks}
 use Rattle.rules.specs.Step.{after_eof}
-use borrow.Author.Rules.{rules}
 use Rattle.source_step.proofs.after.after_eof.Goals as goal
 
 pub returns-then-not-s : goal.returns-then-not-s

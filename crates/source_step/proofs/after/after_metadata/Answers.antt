@@ -1,7 +1,6 @@
 -- The step by the size. Assumes nothing.
 use Rattle.basis.proofs.Pick.{picks}
 use Rattle.rules.specs.Step.{after_metadata}
-use borrow.Author.Rules.{rules}
 use Rattle.source_step.proofs.after.after_metadata.Goals as goal
 
 pub returns-then-s-eq0 : goal.returns-then-s-eq0

@@ -1,5 +1,4 @@
 -- One arm a case, each a clause of the definition. Assumes nothing.
-use borrow.Author.Rules.{rules}
 use Rattle.source_step.proofs.after.after_of.Goals as goal
 
 pub after_eof_again-requires : goal.after_eof_again-requires

@@ -1,5 +1,4 @@
 -- The queue served, and nothing else. Assumes nothing.
-use borrow.Author.Rules.{rules}
 use Rattle.source_step.proofs.after.after_repair.Goals as goal
 
 pub returns : goal.returns

@@ -1,7 +1,6 @@
 -- By the mode. Assumes nothing.
 use Rattle.basis.proofs.Pick.{picks}
 use Rattle.rules.specs.Step.{after_cancel_eof}
-use borrow.Author.Rules.{rules}
 use Rattle.source_step.proofs.after.notice_of_cancellation.Goals as goal
 
 pub returns-then-s : goal.returns-then-s

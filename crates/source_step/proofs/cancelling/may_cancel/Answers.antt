@@ -1,7 +1,6 @@
 -- A cancel is taken by the same tests in the same order: each way out is one branch of the definition. Assumes nothing.
 use Rattle.basis.proofs.Pick.{picks, told}
 use Rattle.rules.specs.Cancel.{may_cancel}
-use borrow.Author.Rules.{rules}
 use Rattle.source_step.proofs.cancelling.may_cancel.Goals as goal
 
 pub returns-then-not-can_cancel : goal.returns-then-not-can_cancel

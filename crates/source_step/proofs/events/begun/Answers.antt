@@ -1,5 +1,4 @@
 -- The fields as they are named, with the transaction's id. Assumes nothing.
-use borrow.Author.Rules.{rules}
 use Rattle.source_step.proofs.events.begun.Goals as goal
 
 pub returns : goal.returns

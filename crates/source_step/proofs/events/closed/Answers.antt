@@ -1,5 +1,4 @@
 -- The notice of completion, put into the record. Assumes nothing.
-use borrow.Author.Rules.{rules}
 use Rattle.source_step.proofs.events.closed.Goals as goal
 
 pub returns : goal.returns

@@ -1,7 +1,6 @@
 -- Each way out is one branch of the definition; the last is the notice of completion. Assumes nothing.
 use Rattle.basis.proofs.Pick.{picks}
 use Rattle.rules.specs.Step.{eof_finished}
-use borrow.Author.Rules.{rules}
 use Rattle.source_step.proofs.events.eof_finished.Goals as goal
 
 pub returns-then-not-s : goal.returns-then-not-s

@@ -1,5 +1,4 @@
 -- One arm a case, each a clause of the definition. Assumes nothing.
-use borrow.Author.Rules.{rules}
 use Rattle.source_step.proofs.events.events_of.Goals as goal
 
 pub returns-in-CancelEof : goal.returns-in-CancelEof

@@ -1,6 +1,5 @@
 -- The first step in the first place. Assumes nothing.
 use native.Mathlib.Omega.{arith}
-use borrow.Author.Rules.{rules}
 use Rattle.source_step.proofs.going.begun.Goals as goal
 
 pub with_step-burst-requires : goal.with_step-burst-requires

@@ -1,5 +1,4 @@
 -- By the answer. Assumes nothing.
-use borrow.Author.Rules.{rules}
 use Rattle.source_step.proofs.going.further.Goals as goal
 
 pub returns-in-Accepted : goal.returns-in-Accepted

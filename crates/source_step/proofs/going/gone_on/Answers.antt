@@ -6,7 +6,7 @@ use native.Mathlib.Omega.{arith}
 use lib.ListN.{length}
 use Rattle.types.specs.declared.Stepped.{Stepped}
 use Rattle.source_step.specs.declared.going.Going.{Going}
-use Rattle.source_step.proofs.Bursting.{step_room, Goes, goes_first, fewer, goes_on, goes_last}
+use Rattle.source_step.proofs.Bursting.{step_room, goes_first, fewer, goes_on, goes_last}
 use Rattle.source_step.proofs.going.gone_on.Goals as goal
 
 pub loop-h-init : goal.loop-h-init

@@ -1,5 +1,4 @@
 -- By the length. Assumes nothing.
-use borrow.Author.Rules.{rules}
 use Rattle.basis.proofs.Pick.{picks}
 use Rattle.source_step.proofs.going.left_of.Goals as goal
 

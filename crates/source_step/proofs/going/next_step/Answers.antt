@@ -6,7 +6,6 @@ use Prim.Native.Nat.{ℕ}
 use lib.ListN.{length, take, length-drop}
 use Rattle.rules.specs.Step.{step_outcome, step_bytes}
 use Rattle.source_step.proofs.Bursting.{part-rest, put_rest}
-use borrow.Author.Rules.{rules}
 use Rattle.source_step.proofs.going.next_step.Goals as goal
 
 pub returns : goal.returns

@@ -1,5 +1,4 @@
 -- Sixteen blank places. Assumes nothing.
-use borrow.Author.Rules.{rules}
 use Rattle.source_step.proofs.going.no_steps.Goals as goal
 
 pub returns : goal.returns

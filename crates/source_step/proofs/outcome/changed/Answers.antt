@@ -1,7 +1,6 @@
 -- Each way out is one branch of the definition. Assumes nothing.
 use Rattle.basis.proofs.Pick.{picks, told}
 use Rattle.rules.specs.Step.{changed}
-use borrow.Author.Rules.{rules}
 use Rattle.source_step.proofs.outcome.changed.Goals as goal
 
 pub returns-then-is_idle : goal.returns-then-is_idle

@@ -1,6 +1,5 @@
 -- The writer's answer is the definition's test of the room; the bytes are the writer's. Assumes nothing.
 use Rattle.source_step.proofs.Once.{made-short, made-wrote}
-use borrow.Author.Rules.{rules}
 use mathlib.Core.Path.{ap, ◌∙◌}
 use Rattle.source_step.specs.Outcomes.{stepped_by}
 use Rattle.source_step.proofs.outcome.made.Goals as goal

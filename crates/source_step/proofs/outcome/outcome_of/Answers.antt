@@ -2,7 +2,6 @@
 use Rattle.basis.proofs.Pick.{picks, told}
 use Rattle.rules.specs.Step.{step_outcome, step_bytes}
 use Rattle.source_step.proofs.Once.{countable}
-use borrow.Author.Rules.{rules}
 use Rattle.source_step.proofs.outcome.outcome_of.Goals as goal
 
 pub returns-then-changed : goal.returns-then-changed

@@ -1,5 +1,4 @@
 -- The refusal beside the old state and no event. Assumes nothing.
-use borrow.Author.Rules.{rules}
 use Rattle.source_step.proofs.outcome.refused_step.Goals as goal
 
 pub returns : goal.returns

@@ -1,5 +1,4 @@
 -- By the answer: the events and the new state, or the refusal. Assumes nothing.
-use borrow.Author.Rules.{rules}
 use Rattle.source_step.proofs.outcome.stepped_by.Goals as goal
 
 pub returns-in-Accepted : goal.returns-in-Accepted
