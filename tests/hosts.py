@@ -127,10 +127,10 @@ def rust_with_cargo():
     return rust() if shutil.which('cargo') else (None, 'no cargo here')
 
 
-# ---- hosts of crate `host`
+# ---- hosts of crate `host_c`
 
 class Lists:
-    """A running host with the archive of `host` in it, which takes lists of calls as lines: tests/host/lists.c, or the harness of tests/cfdp-rs."""
+    """A running host with the archive of `host_c` in it, which takes lists of calls as lines: tests/host/lists.c, or the harness of tests/cfdp-rs."""
 
     def __init__(self, name, file):
         self.process = subprocess.Popen([linked(name, [file, archive('host')])], stdin=subprocess.PIPE, stdout=subprocess.PIPE, text=True)
