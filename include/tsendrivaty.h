@@ -1,6 +1,6 @@
 /* Tsendrivaty: the sending side of CFDP (CCSDS 727.0-B-5) as seven C functions over one handler, which lives in memory that you lend.
  *
- * The archive is made by `rt staticlib seam` (target/staticlib/libseam.a, x86-64 Linux, position independent). It allocates nothing, keeps
+ * The archive is made by `rt lib` in crates/seam (crates/seam/out/libseam.a, x86-64 Linux, position independent). It allocates nothing, keeps
  * nothing outside your struct, calls nothing but memcpy, memmove and memset of the C library, and uses no thread, clock or file.
  * docs/SEAM.md is the guide, docs/REFUSALS.md says what to do about each refusal.
  *

@@ -1,6 +1,6 @@
 /* Tsendrivaty: a list of calls, given as bytes, run on a fresh handler. For tests in C or Rust; a product takes the seven functions of tsendrivaty.h.
  *
- * The archive is made by `rt staticlib host` (target/staticlib/libhost.a, x86-64 Linux, position independent). It allocates nothing, keeps
+ * The archive is made by `rt lib` in crates/host_c (crates/host_c/out/libhost_c.a, x86-64 Linux, position independent). It allocates nothing, keeps
  * nothing from one list to the next, calls nothing but memcpy, memmove and memset of the C library, and uses no thread, clock or file.
  * docs/HOST.md has the bytes of calls and answers, with a worked example; tests/host/lists.c is a host.
  *

@@ -4,11 +4,11 @@
     python3 tests/cost.py
 
 One run proves and builds the archive, links tests/seam/cost.c to it, and prints the table of docs/CHECKTIME.md. Instructions are the difference between two runs that
-differ in one call, counted by the kit's emulator where the kit has one, else by valgrind. Times are not taken. An EOF step that costs more behind more pieces reads the
-file again: then the last line is FAILED, and the status 1. The Rust is cfdp-rs's own source.rs over stand-ins (tests/cfdp-rs/cost); where no cargo and no Rust for
-x86-64 can be had, it says SKIPPED.
+differ in one call, counted by valgrind. Times are not taken. An EOF step that costs more behind more pieces reads the
+file again: then the last line is FAILED, and the status 1. The Rust is cfdp-rs's own source.rs over stand-ins (tests/cfdp-rs/cost); where there is no cargo or
+no Rust, it says SKIPPED.
 """
-import os, re, shutil, subprocess, sys
+import os, re, shutil, sys
 
 HERE = os.path.dirname(os.path.abspath(__file__))
 sys.path.insert(0, HERE)
@@ -20,14 +20,6 @@ TUNE = 'GLIBC_TUNABLES=glibc.cpu.x86_rep_stosb_threshold=100000000:glibc.cpu.x86
 
 def instructions(program, *words):
     """Of the whole process, the loader and the C library with it."""
-    start = hosts.emulator()
-    if start:
-        run = [start[0], '-E', TUNE, '-one-insn-per-tb', '-d', 'exec,nochain', '-D', '/dev/stderr'] + start[1:] + [program, *words]
-        p = subprocess.Popen(run, stdout=subprocess.DEVNULL, stderr=subprocess.PIPE)
-        n = sum(1 for line in p.stderr if line.startswith(b'Trace'))
-        if p.wait():
-            raise hosts.Failed('%s %s: status %d' % (program, ' '.join(words), p.returncode))
-        return n
     if not shutil.which('valgrind'):
         raise hosts.Failed('no valgrind here to count instructions with')
     name, _, value = TUNE.partition('=')
@@ -90,12 +82,12 @@ def seam():
     for kind in 'modular', 'crc32c', 'crc32':
         shown('checksum %s, instructions a byte' % kind, '%.2f' % ((steps[kind] - steps['null']) / 4085))
     shown('CRC-16 of a PDU, instructions a byte', '%.2f' % ((data_crc - data) / 4094))
-    sizes = dict(line.split() for line in hosts.run(hosts.emulator() + [program, 'size']).strip().split('\n'))
+    sizes = dict(line.split() for line in hosts.run([program, 'size']).strip().split('\n'))
     shown('bytes: handler', comma(int(sizes['handler'])))
     shown('bytes: its state', '%s (queue %s, names %s)' % tuple(comma(int(sizes[k])) for k in ('state', 'queue', 'names')))
     shown('bytes: its configuration, its report', '%s, %s' % (sizes['configuration'], sizes['report']))
     deepest = {}
-    for line in hosts.run(hosts.emulator() + [program, 'stack']).strip().split('\n'):
+    for line in hosts.run([program, 'stack']).strip().split('\n'):
         call, depth, _ = line.split()
         deepest[call] = max(int(depth), deepest.get(call, 0))
     for call, depth in deepest.items():

@@ -1,12 +1,12 @@
 #!/usr/bin/env python3
-"""Says what each part of the tree costs in the gate, from the gate's own output.
+"""Says what of the gate falls to each part of the tree, from the gate's own output.
 
     .ci/run > gate.log; python3 tests/gate_parts.py gate.log
 
-Each crate's proof and each must-fail edit is printed by `rt` with its seconds by the clock, and .ci/run lets some run at a time (its RT_JOBS): a part's share is that part of its
-sum. `rt` waits for all that it started before it starts more, so fewer run at times, and the shares add up to less than the gate's time.
+`rt ci` tells each crate that it proves, each must-fail edit and each run, and what it took over from an earlier run of the same files. It prints no seconds, as an older kit did for each
+crate and each edit, so a part's share of the gate's time can no longer be told: only how many crates, functions, edits and runs of programs are its.
 """
-import os, re, sys
+import collections, re, sys
 
 PARTS = [
     ('leaves: basis, rules_leaves, utf8, checksum', r'basis|rules_leaves|utf8|checksum'),
@@ -16,10 +16,13 @@ PARTS = [
     ('the seam', r'seam\w*'),
     ('programs and what is under them', r'\w+'),
 ]
-
-
-with open(os.path.join(os.path.dirname(os.path.abspath(__file__)), '..', '.ci', 'run'), encoding='utf-8') as run:
-    AT_A_TIME = int(re.search(r'RT_JOBS:-(\d+)', run.read())[1])
+SAID = [
+    ('proved', r'rt: (\w+) proved$'),
+    ('kept', r'rt: (\w+) is kept: an earlier run'),
+    ('edits', r'rt: must-fail (\w+)/[\w.-]+: refused'),
+    ('bad', r'rt: must-fail (\w+)/[\w.-]+: (?:BAD EDIT|NOT REFUSED|NOT TRIED)'),
+    ('runs', r'rt: (\w+) ran\b'),
+]
 
 
 def part(crate):
@@ -27,19 +30,24 @@ def part(crate):
 
 
 def main():
-    proofs, edits, count = [0] * len(PARTS), [0] * len(PARTS), [0] * len(PARTS)
-    for line in open(sys.argv[1], encoding='utf-8'):
-        m = re.match(r'rt: (\w+) (?:proved|ran).*\((\d+) s\)$', line)
+    counts, crate = [collections.Counter() for _ in PARTS], None
+    for line in open(sys.argv[1], encoding='utf-8', errors='replace'):
+        for what, said in SAID:
+            m = re.match(said, line)
+            if m:
+                counts[part(m[1])][what] += 1
+        crate = line[3:].strip() if line.startswith('== ') else crate
+        m = re.match(r'logic=proved functions=(\d+)', line)
+        if m and crate and ':' not in crate:
+            counts[part(crate)]['functions'] += int(m[1])
+            crate = None
+        m = re.match(r'rt: (\w+): (\d+) of its \d+ must-fail edits were tried by an earlier run', line)
         if m:
-            proofs[part(m[1])] += int(m[2])
-        m = re.match(r'rt: must-fail (\w+)/(\w+): refused.*?(\d+) s\)$', line)
-        if m:
-            edits[part(m[1])] += int(m[3])
-            count[part(m[1])] += 1
-    print('| Part | Proofs and runs | Must-fail edits | Share of the gate |\n|---|---|---|---|')
-    for (name, _), p, e, n in zip(PARTS, proofs, edits, count):
-        print(f'| {name} | {p} s | {n} in {e} s | {(p + e) / 60 / AT_A_TIME:.1f} min |')
-    print(f'| all | {sum(proofs)} s | {sum(count)} in {sum(edits)} s | {(sum(proofs) + sum(edits)) / 60 / AT_A_TIME:.1f} min |')
+            counts[part(m[1])]['old'] += int(m[2])
+    print('| Part | Crates proved | Their functions | Crates kept from an earlier run | Must-fail edits refused | of them by an earlier run | bad or not refused | Runs of programs |')
+    print('|---|---|---|---|---|---|---|---|')
+    for (name, _), c in zip(PARTS + [('all', '')], counts + [sum(counts, collections.Counter())]):
+        print('| %s | %s |' % (name, ' | '.join(str(c[what]) for what in ('proved', 'functions', 'kept', 'edits', 'old', 'bad', 'runs'))))
 
 
 main()

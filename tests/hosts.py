@@ -1,17 +1,17 @@
-"""Builds and runs hosts of the archives of `rt staticlib`, on either kind of processor. Used by tests/link, tests/compare and tests/cost.py.
+"""Builds and runs hosts of the static libraries `seam` and `host`. Used by tests/link, tests/compare and tests/cost.py.
 
-An archive is x86-64. On x86-64 hosts are built by the machine's own cc and rustc and run as they are. On any other processor C goes through the kit's clang, its linker
-and its emulator, and Rust through a rustc that has the x86-64 standard library: the machine's own if it has it, else Debian's, fetched by apt-get into
-target/x86-rust (nothing is installed, no right beyond writing there is needed).
+    python3 tests/hosts.py NAME ..     proves and builds the archive target/staticlib/libNAME.a of each: seam, or host
+
+An archive is x86-64, and so is the kit that builds it: hosts are built by the machine's own cc and rustc and run as they are, on x86-64 alone.
 """
-import hashlib, os, platform, re, shutil, subprocess
+import hashlib, os, platform, shutil, subprocess, sys
 
 TESTS = os.path.dirname(os.path.abspath(__file__))
 ROOT = os.path.dirname(TESTS)
 TARGET = os.path.join(ROOT, 'target')
 BUILD = os.path.join(TARGET, 'hosts')
 TRIPLE = 'x86_64-unknown-linux-gnu'
-NATIVE = platform.machine() == 'x86_64'
+CRATE_OF = {'seam': 'seam', 'host': 'host_c'}       # the static library that each archive is
 
 
 class Failed(Exception):
@@ -25,36 +25,30 @@ def run(words, **more):
     return done.stdout
 
 
-# ---- the kit
-
-def kit():
-    """The kit's folder, two above the guide that rt names."""
-    if not shutil.which('rt'):
-        raise Failed('there is no rt here: the Rattle kit is needed to prove and build the archive')
-    return os.environ.get('RATTLE_HOME') or os.path.dirname(os.path.dirname(run(['rt', 'doc']).strip()))
-
-
-def tools():
-    return os.path.join(kit(), 'on', platform.machine(), 'toolchain')
-
+# ---- the archives
 
 def archive(name='seam', say=print):
     """Proves the crate and builds its archive; not again where no file of any crate, nor the kit, has changed since."""
-    out = os.path.join(TARGET, 'staticlib', 'lib%s.a' % name)
+    if not shutil.which('rt'):
+        raise Failed('there is no rt here: the Rattle kit is needed to prove and build the archive')
+    crate = CRATE_OF[name]
+    folder, out = os.path.join(ROOT, 'crates', crate), os.path.join(TARGET, 'staticlib', 'lib%s.a' % name)
     stamp, now = out + '.from', sources()
     if not (os.path.exists(out) and os.path.exists(stamp) and open(stamp).read() == now):
-        say('proving and building the archive: rt staticlib %s (some minutes)' % name, flush=True)
-        run(['rt', 'staticlib', name], cwd=ROOT)
+        say('proving and building the archive: rt lib in crates/%s (some minutes)' % crate, flush=True)
+        run(['rt', 'lib'], cwd=folder)
+        os.makedirs(os.path.dirname(out), exist_ok=True)
+        shutil.copyfile(os.path.join(folder, 'out', 'lib%s.a' % crate), out)
         with open(stamp, 'w') as f:
             f.write(now)
     return out
 
 
 def sources():
-    """A sum over the kit's identity and every file that `rt staticlib` may read."""
+    """A sum over the kit's identity and every file that `rt lib` may read."""
     sum = hashlib.sha256(run(['rt', 'version']).encode())
     for folder, inner, files in os.walk(os.path.join(ROOT, 'crates')):
-        inner.sort()
+        inner[:] = sorted(d for d in inner if d != 'out')
         for file in sorted(f for f in files if f.endswith(('.rt', '.antt'))):
             path = os.path.join(folder, file)
             with open(path, 'rb') as f:
@@ -64,31 +58,25 @@ def sources():
     return sum.hexdigest() + '\n'
 
 
-def emulator():
-    """The words before a program: none on x86-64."""
-    if NATIVE:
-        return []
-    lib = os.path.join(tools(), 'lib')
-    return [os.path.join(tools(), 'bin', 'qemu-x86_64'), os.path.join(lib, 'ld-linux-x86-64.so.2'), '--library-path', lib]
-
-
 def unrunnable():
     """Why no program for x86-64 can be run here, or ''."""
-    return '' if NATIVE or os.access(emulator()[0], os.X_OK) else 'no x86-64 processor here, and no emulator for it in the kit'
+    return '' if platform.machine() == 'x86_64' else 'no x86-64 processor here'
 
 
 # ---- C
 
-def own_cc():
-    return NATIVE and shutil.which(os.environ.get('CC', 'cc'))
+def cc():
+    own = shutil.which(os.environ.get('CC', 'cc'))
+    if not own:
+        raise Failed('no C compiler here')
+    return own
 
 
 def c_object(source, name, *words):
     """Compiles a C file; `words` are options as -DNAME."""
     os.makedirs(BUILD, exist_ok=True)
     out = os.path.join(BUILD, name + '.o')
-    start = [own_cc()] if own_cc() else [os.path.join(tools(), 'bin', 'clang'), '--target=' + TRIPLE, '-nostdinc', '-Werror']
-    run(start + ['-std=c11', '-Wall', '-Wextra', '-O2', '-fPIC', *words, '-c', source, '-o', out])
+    run([cc(), '-std=c11', '-Wall', '-Wextra', '-O2', '-fPIC', *words, '-c', source, '-o', out])
     return out
 
 
@@ -96,54 +84,42 @@ def linked(name, files):
     """Links objects and archives with the C library."""
     os.makedirs(BUILD, exist_ok=True)
     out = os.path.join(BUILD, name)
-    if own_cc():
-        run([own_cc(), '-o', out] + files + ['-lpthread', '-ldl', '-lm'])
-    else:
-        link = os.path.join(kit(), 'on', platform.machine(), 'bin', 'rattle-link')
-        run([link, '--target', TRIPLE, '--toolchain', tools(), '-o', out] + files)
+    run([cc(), '-o', out] + files + ['-lpthread', '-ldl', '-lm'])
     return out
 
 
 # ---- Rust
 
 class Rust:
-    """A rustc that can make x86-64 code. `words` start it, `env` it needs."""
+    """A rustc, by its path."""
 
-    def __init__(self, words, env=None):
-        self.words, self.env = words, dict(os.environ, **(env or {}))
+    def __init__(self, rustc):
+        self.rustc = rustc
 
     def archive(self, source, name, *words):
         """A Rust file with its own C `main`, and std with it, as an archive: any linker can then link it."""
         os.makedirs(BUILD, exist_ok=True)
         out = os.path.join(BUILD, 'lib%s.a' % name)
         options = ['--edition', '2021', '--target', TRIPLE, '--crate-type', 'staticlib', '-C', 'panic=abort', '-O']
-        run(self.words + options + [*words, source, '-o', out], env=self.env)
+        run([self.rustc] + options + [*words, source, '-o', out])
         return out
 
     def package(self, folder, name, target):
         """A package of the cargo workspace in `folder` as such an archive; cargo builds in `target`, and fetches nothing."""
         words = ['cargo', 'build', '--offline', '--release', '--quiet', '-j1', '-p', name, '--target', TRIPLE]
-        run(words, cwd=folder, env=dict(self.env, RUSTC=self.words[0], CARGO_TARGET_DIR=target))
+        run(words, cwd=folder, env=dict(os.environ, RUSTC=self.rustc, CARGO_TARGET_DIR=target))
         return os.path.join(target, TRIPLE, 'release', 'lib%s.a' % name)
 
 
-def rust(say=print):
+def rust():
     """A Rust, or (None, why there is none)."""
     own = shutil.which('rustc')
     if own:
         asked = subprocess.run([own, '--print', 'target-libdir', '--target', TRIPLE], capture_output=True, text=True)
         folder = asked.stdout.strip()
         if asked.returncode == 0 and os.path.isdir(folder) and any(f.startswith('libstd-') for f in os.listdir(folder)):
-            return Rust([own]), ''
-    if NATIVE:
-        return None, 'no rustc with its standard library here'
-    folder = os.path.join(TARGET, 'x86-rust')
-    if not os.path.exists(os.path.join(folder, 'whole')):
-        why = fetch(folder, say)
-        if why:
-            return None, why
-    libs = [os.path.join(folder, 'usr', 'lib', d) for d in sorted(os.listdir(os.path.join(folder, 'usr', 'lib'))) if d.endswith('-linux-gnu')]
-    return Rust([os.path.join(folder, 'usr', 'bin', 'rustc'), '--sysroot', os.path.join(folder, 'usr')], {'LD_LIBRARY_PATH': ':'.join(libs)}), ''
+            return Rust(own), ''
+    return None, 'no rustc with its standard library here'
 
 
 def rust_with_cargo():
@@ -151,55 +127,13 @@ def rust_with_cargo():
     return rust() if shutil.which('cargo') else (None, 'no cargo here')
 
 
-def fetch(folder, say):
-    """Debian's rustc for this processor and its standard libraries for this and for x86-64, unpacked in `folder`. Gives why it can't be had, or ''."""
-    missing = [p for p in ('apt-get', 'apt-cache', 'dpkg', 'dpkg-deb') if not shutil.which(p)]
-    if missing:
-        return 'no rustc with an x86-64 standard library here, and no %s to fetch Debian\'s' % missing[0]
-    say("fetching Debian's Rust for x86-64 into target/x86-rust (about 120 MB; nothing is installed)", flush=True)
-    shutil.rmtree(folder, ignore_errors=True)
-    for d in ('apt/state/lists/partial', 'apt/cache/archives/partial', 'debs'):
-        os.makedirs(os.path.join(folder, d))
-    open(os.path.join(folder, 'apt', 'state', 'status'), 'w').close()
-    try:
-        here = run(['dpkg', '--print-architecture']).strip()
-        options = ['Dir::State=%s/apt/state' % folder, 'Dir::State::status=%s/apt/state/status' % folder, 'Dir::Cache=%s/apt/cache' % folder,
-                   'APT::Architecture=' + here, 'APT::Architectures::=' + here, 'APT::Architectures::=amd64', 'Debug::NoLocking=1', 'APT::Sandbox::User=root']
-        o = [w for option in options for w in ('-o', option)]
-        run(['apt-get'] + o + ['-o', 'APT::Update::Error-Mode=any', 'update'])
-        run(['apt-get'] + o + ['download'] + packages(o, here), cwd=os.path.join(folder, 'debs'))
-        for deb in sorted(os.listdir(os.path.join(folder, 'debs'))):
-            run(['dpkg-deb', '-x', os.path.join(folder, 'debs', deb), folder])
-    except Failed as e:
-        return "Debian's Rust for x86-64 can't be fetched: " + str(e).strip().split('\n')[-1]
-    for d in ('apt', 'debs', 'usr/share'):
-        shutil.rmtree(os.path.join(folder, d), ignore_errors=True)
-    open(os.path.join(folder, 'whole'), 'w').close()
-    return ''
-
-
-def packages(o, here):
-    """rustc and what it needs beside the C library: names differ from release to release, so they are followed from one package to the next."""
-    def about(name, field):
-        text = run(['apt-cache'] + o + ['show', '--no-all-versions', '%s:%s' % (name, here)])
-        return re.search(r'^%s: (.*)$' % field, text, re.M).group(1)
-
-    known = run(['apt-cache'] + o + ['pkgnames', 'rustc']).split()
-    rustc = 'rustc-web' if 'rustc-web' in known else 'rustc'               # Debian 12's newer one, or the release's own
-    std_dev = re.search(r'libstd-rust\S*-dev', about(rustc, 'Depends')).group(0)
-    std = re.search(r'libstd-rust\S*', about(std_dev, 'Depends')).group(0)
-    llvm = re.search(r'libllvm\S*', about(std, 'Depends')).group(0).rstrip(',')
-    return ['%s:%s' % (p, here) for p in (rustc, std, std_dev, llvm)] + [std_dev + ':amd64']
-
-
-# ---- hosts of crate `host`
+# ---- hosts of crate `host_c`
 
 class Lists:
-    """A running host with the archive of `host` in it, which takes lists of calls as lines: tests/host/lists.c, or the harness of tests/cfdp-rs."""
+    """A running host with the archive of `host_c` in it, which takes lists of calls as lines: tests/host/lists.c, or the harness of tests/cfdp-rs."""
 
     def __init__(self, name, file):
-        words = emulator() + [linked(name, [file, archive('host')])]
-        self.process = subprocess.Popen(words, stdin=subprocess.PIPE, stdout=subprocess.PIPE, text=True)
+        self.process = subprocess.Popen([linked(name, [file, archive('host')])], stdin=subprocess.PIPE, stdout=subprocess.PIPE, text=True)
 
     def say(self, line):
         self.process.stdin.write(line + '\n')
@@ -220,3 +154,13 @@ class Lists:
 
 def c_lists():
     return Lists('lists', c_object(os.path.join(TESTS, 'host', 'lists.c'), 'lists'))
+
+
+if __name__ == '__main__':
+    if not sys.argv[1:] or set(sys.argv[1:]) - set(CRATE_OF):
+        raise SystemExit(__doc__)
+    try:
+        for name in sys.argv[1:]:
+            print(os.path.relpath(archive(name)))
+    except Failed as e:
+        sys.exit('FAILED: %s' % e)

@@ -4,10 +4,10 @@
     python3 tests/random_passes.py N SEED [PROGRAM]
 
 N lists, each of about 48,000 bytes: some sixty transactions on one handler over one file, with fill behind many deliveries, which are then delivered from the
-reported number on; then N in which other files of the same length are lent within a transaction. PROGRAM is target/bin/drive if not given. The first difference is made small by leaving calls out, and printed in readable form; then the status
-is 1.
+reported number on; then N in which other files of the same length are lent within a transaction. PROGRAM is crates/drive/out/drive if not given (./run drive builds it). The first difference is made small by leaving calls out, and printed in
+readable form; then the status is 1.
 """
-import copy, os, platform, random, subprocess, sys
+import copy, os, random, subprocess, sys
 from calls import LEND, LOOK, Run, answer_bytes, answer_line, answers, call_bytes, call_line, list_bytes
 from model import CHECKSUMS, IDLE, Config, Entry, Handler, Header, Request, be, crc16
 
@@ -273,17 +273,12 @@ def with_fill(run, given):
 
 # ---- the program
 
-def kit():
-    """The kit's folder, two above the guide that rt names."""
-    return os.environ.get('RATTLE_HOME') or os.path.dirname(os.path.dirname(subprocess.check_output(['rt', 'doc'], text=True).strip()))
-
-
-def command(program):
-    """Programs are for x86-64 and run under the kit's loader and C library; on another processor the kit has an emulator beside its compiler."""
-    tools = os.path.join(kit(), 'on', platform.machine(), 'toolchain')
-    emulator, lib = os.path.join(tools, 'bin', 'qemu-x86_64'), os.path.join(tools, 'lib')
-    start = [emulator] if os.path.exists(emulator) else []
-    return start + [os.path.join(lib, 'ld-linux-x86-64.so.2'), '--library-path', lib, program]
+def built(name, path=None):
+    """The words that start a program: the one at `path`, or the one of that name as `rt run` built it. Programs are for x86-64."""
+    path = os.path.abspath(path or os.path.join(ROOT, 'crates', name, 'out', name))
+    if not os.path.exists(path):
+        raise SystemExit('%s is not built: ./run %s < /dev/null' % (name, name))
+    return [path]
 
 
 def driven(program, run):
@@ -379,7 +374,7 @@ def compare(program, count, seed, changes=False, looks=False):
 
 
 def main():
-    program = command(os.path.abspath(sys.argv[3] if len(sys.argv) > 3 else os.path.join(ROOT, 'target', 'bin', 'drive')))
+    program = built('drive', *sys.argv[3:4])
     count, seed = int(sys.argv[1]), int(sys.argv[2])
     return compare(program, count, seed) or compare(program, count, seed, changes=True)
 

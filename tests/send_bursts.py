@@ -5,11 +5,11 @@
 
 Compared are the PDUs, in one of the three forms, the capture, and standard error. The passes: the demo for every burst from 0 to 16; passes made to meet a
 burst's ends (signs of life, repairs of many requests, the longest PDUs, expiry, writes that fail at any place); and N random ones
-(default 100, seed 1) with random answers, fill behind some. Words that are no burst must be complained of. PROGRAM is target/bin/send if not given (rt check send). Status 0,
+(default 100, seed 1) with random answers, fill behind some. Words that are no burst must be complained of. PROGRAM is crates/send/out/send if not given (./run send builds it). Status 0,
 or 1 where something differs.
 """
 import os, random, resource, subprocess, sys, tempfile
-from random_passes import ROOT, command
+from random_passes import ROOT, built
 from wireshark_passes import Asked, framed
 
 HERE = os.path.dirname(os.path.abspath(__file__))
@@ -31,7 +31,7 @@ class Bench:
     """A folder to run in. Its names are the same for all runs, so what is said of them is too."""
 
     def __init__(self, program, folder):
-        self.program, self.folder = command(program), folder
+        self.program, self.folder = program, folder
         self.compared = self.bad = self.repairs = self.failed = 0
 
     def path(self, name):
@@ -138,11 +138,10 @@ def bad_words(bench):
 def main(words):
     if any(not w.isdigit() for w in words[:2]) or len(words) > 3:
         raise SystemExit(__doc__)
-    n, seed, program = words + ['100', '1', os.path.join(ROOT, 'target', 'bin', 'send')][len(words):]
-    if not os.path.exists(program):
-        raise SystemExit('send is not built: rt check send')
+    n, seed = (words + ['100', '1'][len(words):])[:2]
+    program = built('send', *words[2:])
     with tempfile.TemporaryDirectory() as folder:
-        bench, rng = Bench(os.path.abspath(program), folder), random.Random('bursts')
+        bench, rng = Bench(program, folder), random.Random('bursts')
         demo(bench)
         for some in (lives, long_pdus, expiry, failing):
             some(bench, rng)

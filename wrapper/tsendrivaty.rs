@@ -1,6 +1,6 @@
-//! Tsendrivaty from Rust: the seven C functions of `rt staticlib seam` behind a safe `Handler`. `core` only, no dependencies, Rust 1.82 or later.
+//! Tsendrivaty from Rust: the seven C functions of crate `seam` behind a safe `Handler`. `core` only, no dependencies, Rust 1.82 or later.
 //!
-//! Take it in with `mod tsendrivaty;` and link the archive: `-L native=target/staticlib -l static=seam`. docs/SEAM.md is the guide.
+//! Take it in with `mod tsendrivaty;` and link the archive: `-L native=crates/seam/out -l static=seam`. docs/SEAM.md is the guide.
 //!
 //! `unsafe` stands in the seven calls alone. They are sound for every value of `Handler`: it holds numbers only, and the C functions take any
 //! bit pattern of it, any slice and any number, and return. `&mut self` gives them what else they ask: one call at a time, and no overlap.

@@ -1,6 +1,6 @@
 //! The test host in Rust: host.c's runs through wrapper/tsendrivaty.rs, the same lines, the same watching.
 //!
-//! `main` is C's, because an ordinary one makes std read /proc/self/maps, which the kit's emulator does not bear.
+//! `main` is C's, because an ordinary one makes std read /proc/self/maps, which not every emulator bears.
 #![no_main]
 
 #[path = "../../wrapper/tsendrivaty.rs"]

@@ -3,7 +3,7 @@
 //! the metadata and the first data PDU, each further one a data PDU. `cost N CRC SIZE` makes a whole pass over a file of SIZE bytes, unacknowledged, without closure,
 //! in at most N calls; with N = 0 it makes no put. The file store copies from memory, the sender drops the PDU: no system call is counted or left out.
 //!
-//! An archive with C's `main`, because an ordinary one makes std read /proc/self/maps, which the kit's emulator does not bear.
+//! An archive with C's `main`, because an ordinary one makes std read /proc/self/maps, which not every emulator bears.
 use cfdp::{
     FaultInfo, GenericSendError, IndicationConfig, LocalEntityConfig, PduSender, RemoteConfigList, RemoteEntityConfig, State, TimerContext,
     TimerCreator, TransactionId, UserFaultHook,

@@ -1,5 +1,5 @@
 //! Runs calls on a fresh SourceHandler (cfdp-rs 0.3.0's source.rs, unchanged) and prints what each gives; and, in the same
-//! process, lists of calls on our handler, by the C function of crate `host` (docs/HOST.md), whose archive is linked in.
+//! process, lists of calls on our handler, by the C function of crate `host_c` (docs/HOST.md), whose archive is linked in.
 //!
 //! Standard input, a line at a time:
 //!   ours CALLS FILE  our handler: a list of calls over a file, both in hex; it prints the answers in hex, one line
@@ -13,8 +13,8 @@
 //! calls, `= ..` the call's result, and last `. STATE STEP`. After a panic: `! MESSAGE`, and nothing more until the next
 //! case.
 //!
-//! An archive with C's `main`, because an ordinary program makes std read /proc/self/maps, which the kit's emulator does not
-//! bear.
+//! An archive with C's `main`, because an ordinary program makes std read /proc/self/maps, which not every emulator
+//! bears.
 use cfdp::{
     FaultInfo, GenericSendError, IndicationConfig, LocalEntityConfig, PduRawWithInfo, PduSender,
     RemoteConfigList, RemoteEntityConfig, TimerContext, TimerCreator, TransactionId, UserFaultHook,
