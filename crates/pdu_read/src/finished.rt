@@ -7,7 +7,7 @@ use crate::condition::is_reserved;
 use types::{Body, FinishedParams, Meaning};
 
 // Where a run of TLVs stands, byte by byte.
-#[derive(Drop)]
+#[derive(Clone, Copy)]
 pub enum Tlv {
     AtType,
     AtLength,

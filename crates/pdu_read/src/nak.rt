@@ -40,7 +40,7 @@ fn size_behind(s: &[u8], large: bool, at: usize) -> u64
 }
 
 // A request, and the place behind its pair.
-#[derive(Drop)]
+#[derive(Clone, Copy)]
 pub struct Pair {
     pub request: SegmentRequest,
     pub next: usize,
@@ -98,7 +98,7 @@ pub fn pair_at(s: &[u8], large: bool, at: usize) -> Pair
 // ---- the requests of a delivered NAK, one after the other
 
 // The delivered bytes and a place among them. Its functions are thin: the work is `pair_at`'s.
-#[derive(Drop)]
+#[derive(Clone, Copy)]
 pub struct NakPduReader<'a> {
     pub pdu: &'a [u8],
     pub at: usize,

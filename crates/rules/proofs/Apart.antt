@@ -67,8 +67,8 @@ unfolding run labelled flat_map
 apart w c [] s i l f = tt
 apart w c (x ∷ cs) s i l f = on_call w c cs (λ t j b. apart w c cs t j l.1 b) s (shows x s) (after x s) i (call_moves w s i x l.0) f
 
-pub told-apart : ToldApart
-told-apart h c q source destination file b z a cs l f =
+pub told_apart : ToldApart
+told_apart h c q source destination file b z a cs l f =
     let p = put-passed h c q source destination (length file) a in
     let s = (put_outcome h c q source destination (length file)).state in
     let i = begun h c q source destination file p in

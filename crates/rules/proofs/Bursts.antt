@@ -31,7 +31,7 @@ use Rattle.types.specs.declared.Answer.TheVariants.{Accepted, Refused}
 use Rattle.basis.proofs.Pick.{cases}
 use Rattle.rules.proofs.Outcomes.{differ}
 use Rattle.rules.proofs.Tells.{tells_idle}
-use Rattle.rules.proofs.Exactly.{step-exactly, numbered, none_made_lem}
+use Rattle.rules.proofs.Exactly.{step_exactly, numbered, none_made_lem}
 use Rattle.rules.proofs.Singly.{made_in_lem, burst-one-by-one, burst-keeps}
 
 -- ---- how many
@@ -153,9 +153,9 @@ unfolding steps_of
 burst-ends s file expired zero room a = inl refl
 burst-ends s file expired (suc n) room a = first_ends n s file expired room (a (λ e. omega (arith, e)))
 
-pub burst-is-steps : BurstIsSteps
+pub burst_is_steps : BurstIsSteps
 unfolding burst_outcome in_places
-burst-is-steps s file expired count out a =
+burst_is_steps s file expired count out a =
     let k = counted s file expired count (length out) a in
     let m = made_in_lem s file expired count (length out) in
     let rs = steps_of (allowed count) s file expired (length out) in
@@ -237,17 +237,17 @@ start_settled s file expired count room g l = go (is_idle s.step) refl (eqb (len
     go true e c f = inr (e, owed_none ((tells_idle s.step).yes e))
     go false e true f = inl (sym (eqb-true (length file) s.fixed.size f))
     go false e false f =
-        let k = (step-exactly s file expired room).0.1 (((tells_idle s.step).no e, eqb-false (length file) s.fixed.size f), tt) in
+        let k = (step_exactly s file expired room).0.1 (((tells_idle s.step).no e, eqb-false (length file) s.fixed.size f), tt) in
         let z = ap length (none_made_lem (allowed count) s file expired room (λ h. omega (arith, k, h))) in
         absurd (omega (arith, z, l))
 
-pub burst-not-changed : BurstNotChanged
-burst-not-changed s file expired count room g l left h =
+pub burst_not_changed : BurstNotChanged
+burst_not_changed s file expired count room g l left h =
     go (burst-keeps (Settled (length file)) file (λ t x n. step-settled (length file) t file x n) s expired count room (start_settled s file expired count room g l))
   where
     t : State
     t = (burst_outcome s file expired count room).state
 
     go : Settled (length file) t → ⊥
-    go (inl e) = ((step-exactly t file false left).0.0 h).0.1 (sym e)
-    go (inr e) = ((step-exactly t file false left).0.0 h).0.0 ((tells_idle t.step).yes e.0)
+    go (inl e) = ((step_exactly t file false left).0.0 h).0.1 (sym e)
+    go (inr e) = ((step_exactly t file false left).0.0 h).0.0 ((tells_idle t.step).yes e.0)

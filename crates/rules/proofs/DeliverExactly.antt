@@ -271,9 +271,9 @@ of-nak bytes f large b test Q t z (KeepAlive p) k = tells_map (λ q. absurd (z q
 
 -- ---- all
 
-pub deliver-exactly : DeliverExactly
+pub deliver_exactly : DeliverExactly
 unfolding deliver_outcome deliver_answer said_in frame_in body_in head_in owing
-deliver-exactly s bytes =
+deliver_exactly s bytes =
     rw (answer-by s (deliver_state s bytes (said_in bytes)) (deliver_answer s bytes (said_in bytes)))
     (exactly (deliver_rules s bytes) _ refl (go (well_framed bytes) (fails_frame bytes)))
   where

@@ -90,8 +90,8 @@ due-idle : (n : TransactionSeqNum) (file : List ℕ) (expired : Bool) → length
 unfolding idle due_of eof_owed
 due-idle n file expired = omega arith
 
-pub due-fits : DueFits
-due-fits s file expired g = go s.step g.here
+pub due_fits : DueFits
+due_fits s file expired g = go s.step g.here
   where
     go : (k : TransactionStep) → At k s → length (bytes_due s file expired) ≤ 4096
     go Idle p = subst (λ (t : State). length (bytes_due t file expired) ≤ 4096) (sym p) (due-idle s.number file expired)

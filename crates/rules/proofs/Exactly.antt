@@ -43,9 +43,9 @@ tells_changed : (s : State) (n : ℕ) → Tells (changed s n) ((¬ (s.step ≡ I
 unfolding changed
 tells_changed s n = search (tests, tells_idle)
 
-pub step-exactly : StepExactly
+pub step_exactly : StepExactly
 unfolding step_outcome performed
-step-exactly s file expired room =
+step_exactly s file expired room =
     exactly (step_rules s file expired room) _ refl
     (hits (λ (r : Stepped). answer_no r.answer) (changed s (length file)) _ _ 30 _ _ (tells_changed s (length file)) refl
     (λ e. hits (λ (r : Stepped). answer_no r.answer) (ltb room (length (bytes_due s file expired))) _ _ 31 _ _ (tells_ltb room (length (bytes_due s file expired))) refl (λ f. passes)))
@@ -63,9 +63,9 @@ first_lines (suc n) s file expired room =
     (λ e. hits (λ (r : Stepped). answer_no r.answer) (ltb room (length (bytes_due s file expired))) _ _ 31 _ _
     (tells_map (λ h. (omega arith, h)) (λ h. h.1) (tells_ltb room (length (bytes_due s file expired)))) refl (λ f. passes)))
 
-pub burst-exactly : BurstExactly
+pub burst_exactly : BurstExactly
 unfolding burst_outcome burst_answer
-burst-exactly s file expired count room =
+burst_exactly s file expired count room =
     exactly (burst_rules s file expired count room) _ refl
     (hits answer_no (ltb 16 count) _ _ 32 _ _ (tells_ltb 16 count) refl (λ e. first_lines count s file expired room))
 
@@ -96,18 +96,18 @@ answers : (b : Bool) (s t : State) → (pick {A = Cancelled} b (record { yes = t
 answers true s t = refl
 answers false s t = refl
 
-pub cancel-exactly : CancelExactly
+pub cancel_exactly : CancelExactly
 unfolding cancel_outcome
-cancel-exactly s source number =
+cancel_exactly s source number =
     rw (answers (may_cancel s source number) (user_cancelled s) s)
     (fails_iff (fails_map (⊎_elim (⊎_elim inl (λ x. inr (inl x))) (λ x. inr (inr x))) (⊎_elim (λ x. inl (inl x)) (⊎_elim (λ x. inl (inr x)) inr))
     (fails_may s source number)))
 
 -- ---- requests that owe
 
-pub owes-exactly : OwesExactly
+pub owes_exactly : OwesExactly
 unfolding owes is_metadata
-owes-exactly r = tells_iff (search tests)
+owes_exactly r = tells_iff (search tests)
 
 counted-owing : (rs : List SegmentRequest) → Counted rs (owing rs)
 unfolding owing
@@ -119,8 +119,8 @@ metadata-is : (r : SegmentRequest) → (is_metadata r ≡ true) ↔ ((r.start �
 unfolding is_metadata
 metadata-is r = tells_iff (search tests)
 
-pub owing-exactly : OwingExactly
-owing-exactly = record { counts = counted-owing; metadata_pair = metadata-is }
+pub owing_exactly : OwingExactly
+owing_exactly = record { counts = counted-owing; metadata_pair = metadata-is }
 
 -- ---- a refusal changes nothing
 

@@ -162,8 +162,8 @@ module _ (a b : List ℕ) (p : OnePdu a b) where
       let q = ends-alike a b alike-whole e in
       sym (cut a alike-whole) ∙ ap f (e ∙ ap (λ (n : ℕ). take n b) (sym q.0)) ∙ cut b q.1
 
-pub fill-unread : FillUnread
-fill-unread =
+pub fill_unread : FillUnread
+fill_unread =
     record {
       deliver = λ s a b p. alike a b p (deliver_outcome s) (λ c w. deliver-own c w s);
       requests = λ a b p. alike a b p requests requests-own;
@@ -206,8 +206,8 @@ module _ (s : State) (bytes : List ℕ) where
       go true w e = let t = tests bytes w in (own_is bytes t.long, t.whole)
       go false w e = absurd (true≢false e)
 
-pub length-exactly : LengthsExactly
-length-exactly s bytes = go (is_malformed (said_in bytes)) refl
+pub length_exactly : LengthsExactly
+length_exactly s bytes = go (is_malformed (said_in bytes)) refl
   where
     go : (b : Bool) → is_malformed (said_in bytes) ≡ b → LengthExactly s bytes
     go true e =
@@ -230,8 +230,8 @@ length-exactly s bytes = go (is_malformed (said_in bytes)) refl
 
 -- ---- the next PDU
 
-pub next-pdu : NextPdu
-next-pdu s first rest some l = go (is_malformed (said_in first)) refl
+pub next_pdu : NextPdu
+next_pdu s first rest some l = go (is_malformed (said_in first)) refl
   where
     go : (b : Bool) → is_malformed (said_in first) ≡ b
         → let d = deliver_outcome s (first ++ rest) in
@@ -241,5 +241,5 @@ next-pdu s first rest some l = go (is_malformed (said_in first)) refl
         let n : end_in first ≡ length first = sym (reported s first ∙ ap (λ (b : Bool). pick b 0 (end_in first)) e) ∙ l in
         let m : own_length first ≡ length first = (came s first e).0 ∙ n in
         let p : OnePdu first (first ++ rest) = record { whole = rw m (omega arith); agree = rw m (take-length first ∙ sym (take-append_seam first rest)) } in
-        let d : deliver_outcome s (first ++ rest) ≡ deliver_outcome s first = sym (fill-unread.deliver s first (first ++ rest) p) in
+        let d : deliver_outcome s (first ++ rest) ≡ deliver_outcome s first = sym (fill_unread.deliver s first (first ++ rest) p) in
         (d, λ t. ap (deliver_outcome t) (ap (λ (x : Delivered). drop x.length (first ++ rest)) d ∙ ap (λ (k : ℕ). drop k (first ++ rest)) l ∙ drop-append_seam first rest))

@@ -311,9 +311,9 @@ kept-or-good s t (Refused r) g h = g
 
 -- ---- every call
 
-pub good-kept : GoodKept
+pub good_kept : GoodKept
 unfolding new_outcome reset_outcome put_outcome
-good-kept =
+good_kept =
     record {
       new = λ n. good-idle n;
       put = λ s c q source destination S h g.
@@ -326,12 +326,12 @@ good-kept =
     }
 
 pub call_good : (c : Call) (s : State) → ProperCall c → Good s → Good (after_call c s)
-call_good (one (put c q source destination S)) s p g = good-kept.put s c q source destination S p g
-call_good (one (deliver bytes)) s p g = good-kept.deliver s bytes p g
-call_good (one (step lent expired out)) s p g = good-kept.step s lent expired (length out) p g
-call_good (one (cancel source number)) s p g = good-kept.cancel s source number g
-call_good (one reset) s p g = good-kept.reset s g
-call_good (burst lent expired count out) s p g = good-kept.burst s lent expired count (length out) p g
+call_good (one (put c q source destination S)) s p g = good_kept.put s c q source destination S p g
+call_good (one (deliver bytes)) s p g = good_kept.deliver s bytes p g
+call_good (one (step lent expired out)) s p g = good_kept.step s lent expired (length out) p g
+call_good (one (cancel source number)) s p g = good_kept.cancel s source number g
+call_good (one reset) s p g = good_kept.reset s g
+call_good (burst lent expired count out) s p g = good_kept.burst s lent expired count (length out) p g
 
 behind-good : (cs : List Call) (s : State) → Proper cs → Good s → Good (behind cs s)
 unfolding behind
@@ -339,7 +339,7 @@ behind-good [] s p g = g
 behind-good (c ∷ cs) s p g = behind-good cs (after_call c s) p.1 (call_good c s p.0 g)
 
 pub always_good : AlwaysGood
-always_good n cs p = behind-good cs (new_outcome n) p (good-kept.new n)
+always_good n cs p = behind-good cs (new_outcome n) p (good_kept.new n)
 
-pub anomaly_never-moves : AnomalyNeverMoves
-anomaly_never-moves n cs p = (always_good n cs p).marks.anomalies
+pub anomaly_never_moves : AnomalyNeverMoves
+anomaly_never_moves n cs p = (always_good n cs p).marks.anomalies

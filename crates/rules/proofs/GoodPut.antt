@@ -27,7 +27,7 @@ use Rattle.rules.proofs.Outcomes.{passed, passed-not}
 use Rattle.rules.proofs.Begun.{head-fit, entry-good, name_lengths, packet-holds, segment-range, name_kept}
 use Rattle.rules.proofs.PutExactly.{tells_type, fails_actions}
 use Rattle.rules_pdu.proofs.Round.{length-encode}
-use Rattle.rules_leaves.proofs.Utf8.{utf8-exactly}
+use Rattle.rules_leaves.proofs.Utf8.{utf8_exactly}
 use Rattle.rules.proofs.GoodQueue.{good-empty}
 use Rattle.rules.proofs.GoodMarks.{good-no_marks}
 
@@ -49,7 +49,7 @@ good_name name n u =
       least = rw (padded-length name l) n.0;
       most = rw (padded-length name l) l;
       zeros = rw (padded-is name l, padded-length name l) (drop-append_seam name (replicate (255 - length name) 0));
-      utf8 = rw (name_kept name l) ((utf8-exactly name).0 u);
+      utf8 = rw (name_kept name l) ((utf8_exactly name).0 u);
     }
 
 -- ---- what is fixed

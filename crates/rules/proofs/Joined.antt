@@ -1,4 +1,4 @@
--- The bytes that an observer joins by offsets are those of the PDUs that are not owed to a NAK: from `told-apart`, entry by entry.
+-- The bytes that an observer joins by offsets are those of the PDUs that are not owed to a NAK: from `told_apart`, entry by entry.
 -- Assumes nothing.
 use mathlib.Core.Path.{◌≡◌, refl, sym, ap, subst, ◌∙◌}
 use mathlib.Core.Bool.{Bool, true, false}
@@ -18,7 +18,7 @@ use Rattle.rules.specs.Demand.{Tiled}
 use Rattle.rules.specs.Companions.{data_length, BeginsAt, LiesBelow, Apart}
 use Rattle.rules.specs.Sums.{joined, first_bytes, FirstJoined}
 use Rattle.rules.proofs.Demand.{third_demand}
-use Rattle.rules.proofs.Apart.{told-apart}
+use Rattle.rules.proofs.Apart.{told_apart}
 
 -- what was joined before, and these behind it; the PDUs tile them
 record Joins (bs : List ℕ) (pdus : List (List ℕ)) (all : List ℕ) : Type 0 where
@@ -77,9 +77,9 @@ module _ (L : ℕ) where
           (ih (joined bs x) (subst (λ (m : ℕ). Apart m (labelled L j es)) (joined_length bs x a.0) a.1))
   joins (ended ∷ es) k bs n a = joins es _ bs n.1 a
 
-pub first-joined : FirstJoined
-first-joined h c q source destination file b l a cs f e =
+pub first_joined : FirstJoined
+first_joined h c q source destination file b l a cs f e =
     let s = (put_outcome h c q source destination (length file)).state in
     let n = (third_demand h c q source destination file b l a cs f (trace cs s) ([], append-nil (trace cs s)) e).0.no_put in
-    let j = joins _ (trace cs s) 0 [] n (told-apart h c q source destination file b l a cs f e) in
+    let j = joins _ (trace cs s) 0 [] n (told_apart h c q source destination file b l a cs f e) in
     subst (Tiled 0 _) (sym j.behind_it) j.tiled

@@ -28,10 +28,10 @@ use Rattle.types.specs.declared.Due.{Due}
 use Rattle.types.specs.declared.Due.TheVariants.{CancelEof, Repair, Metadata, Data, NoErrorEof}
 use Rattle.types.specs.declared.Cancelled.{Cancelled}
 use Rattle.rules.proofs.Pending.{Formed, pending-first, pending-changed}
-use Rattle.rules.proofs.Good.{good-kept}
+use Rattle.rules.proofs.Good.{good_kept}
 use Rattle.rules.proofs.Applies.{due_applies}
 use Rattle.rules.proofs.Summed.{sum-behind}
-use Rattle.rules.proofs.Says.{step-taken, due-says}
+use Rattle.rules.proofs.Says.{step-taken, due_says}
 
 -- ---- Idle
 
@@ -55,9 +55,9 @@ back : (s : State) → Back s (idle s.number)
 unfolding idle
 back s = (refl, cleared-idle s.number)
 
-pub idle-cleared : IdleCleared
+pub idle_cleared : IdleCleared
 unfolding idle new_outcome reset_outcome
-idle-cleared =
+idle_cleared =
     record {
       new = λ n. (refl, cleared-idle n);
       reset = back;
@@ -180,6 +180,6 @@ cancel_leaves =
       fields = λ s source number e. rw (yes-state s source number e) (refl, refl, refl, (refl, refl), refl, (refl, refl, refl), refl, refl, refl, refl);
       sends = λ s source number e g file expired out y a.
           let t = (cancel_outcome s source number).state in
-          due-says.says t file expired out (good-kept.cancel s source number g) y a
+          due_says.says t file expired out (good_kept.cancel s source number g) y a
           ∙ rw (yes-state s source number e, cancel-due s expired) refl;
     }

@@ -187,8 +187,8 @@ stream_read w c =
     ∙ ap₂ (λ (a b : List (Option Pdu)). a ++ b) (all_read w c (planned w) (planned-within w c)) (ap (λ (a : Option Pdu). a ∷ []) (last-read w c))
     ∙ sym (map-append (meant w) (planned w) (lastly w ∷ []))
 
-pub plain-run : PlainRun
-plain-run h c q source destination file b z a cs k e =
+pub plain_run : PlainRun
+plain_run h c q source destination file b z a cs k e =
     let p = put-passed h c q source destination (length file) a in
     let s = (put_outcome h c q source destination (length file)).state in
     let v = carries h c q source destination file p b z in
@@ -221,8 +221,8 @@ progress-sent w c s i a es t k =
     let l = r.left in
     omega arith
 
-pub progress-made : ProgressMade
-progress-made h c q source destination file b z a cs l f =
+pub progress_made : ProgressMade
+progress_made h c q source destination file b z a cs l f =
     let p = put-passed h c q source destination (length file) a in
     let s = (put_outcome h c q source destination (length file)).state in
     let y = carries h c q source destination file p b z in
@@ -267,9 +267,9 @@ asked-at : (s : List ℕ) (f : Frame) (h : Head) (n : ℕ) → f.head ≡ h → 
 unfolding requests_in
 asked-at s f h n a b = let e : f.start ≡ H h = b ∙ ap H a in rw (e, a)
 
-pub nak-asks : NakAsks
+pub nak_asks : NakAsks
 unfolding requests
-nak-asks h from upto rs fill f y l =
+nak_asks h from upto rs fill f y l =
     let s = encode_heard h (nak from upto rs) ++ fill in
     let r = heard-read h (nak from upto rs) fill f y l in
     ap (requests_of_frame s) r.0

@@ -51,8 +51,8 @@ put-made s c q source destination S l k =
       names = (name_kept source l, name_kept destination k);
     }
 
-pub put-makes : PutMakes
-put-makes s c q source destination S a =
+pub put_makes : PutMakes
+put_makes s c q source destination S a =
     let p = put-passed s c q source destination S a in
     let n = name_lengths (length source) (length destination) p.lengths in
     rw p.state-is (put-made s c q source destination S n.0.1 n.1.1)

@@ -114,10 +114,10 @@ unfolding moves_all
 wents_same [] out n = refl
 wents_same (m ∷ ms) out n = wents_same ms (drop m.length out) n
 
-pub number-moves : NumberMoves
+pub number_moves : NumberMoves
 unfolding moves_all
-number-moves (one c) s = single_moves c s
-number-moves (burst lent expired count out) s =
+number_moves (one c) s = single_moves c s
+number_moves (burst lent expired count out) s =
     burst-keeps (λ t. t.number ≡ s.number) lent (λ t x n e. step_same t lent x n ∙ e) s expired count (length out) refl
     ∙ sym (wents_same (made_in (burst_outcome s lent expired count (length out))) (burst_bytes s lent expired count out) s.number)
 
@@ -131,5 +131,5 @@ unfolding trace behind moves_all
 number_behind [] s = refl
 number_behind (c ∷ cs) s =
     number_behind cs (after_call c s)
-    ∙ ap (moves_all (trace cs (after_call c s))) (number-moves c s)
+    ∙ ap (moves_all (trace cs (after_call c s))) (number_moves c s)
     ∙ sym (all_append (shows_call c s) (trace cs (after_call c s)) s.number)

@@ -7,8 +7,8 @@ use Rattle.rules.specs.OneOutcome.{ExactlyOne, OneOutcome}
 the : {A : Type 0} (r : A) → ExactlyOne (λ (q : A). q ≡ r)
 the r = (r, refl, λ q e. e)
 
-pub one-outcome : OneOutcome
-one-outcome =
+pub one_outcome : OneOutcome
+one_outcome =
     record {
       put = λ s c q source destination S. the _;
       deliver = λ s bytes. the _;

@@ -26,7 +26,7 @@ use Rattle.rules_pdu.proofs.Round.{widths-exactly, length-encode}
 use Rattle.rules.proofs.Tells.{Tells, Fails, tests, tells_eqb, tells_ltb, fails_leb, fails_not, never, tells_not, tells_denied, fails_either, iff_tells, fails_iff, tells_idle}
 use Rattle.rules.proofs.Order.{line, passes, exactly}
 use Rattle.rules.proofs.Outcomes.{answer-by}
-use Rattle.rules_leaves.proofs.Utf8.{utf8-exactly}
+use Rattle.rules_leaves.proofs.Utf8.{utf8_exactly}
 
 pub tells_width : (w : ℕ) → Tells (good_width w) (Width w)
 tells_width w = iff_tells (widths-exactly w)
@@ -90,16 +90,16 @@ unfolding good_lengths
 fails_lengths source destination = search (tests, fails_length)
 
 fails_utf8 : (name : List ℕ) → Fails (is_utf8 name) (¬ Utf8 name)
-fails_utf8 name = fails_not (iff_tells (utf8-exactly name))
+fails_utf8 name = fails_not (iff_tells (utf8_exactly name))
 
 tells_long : (h : Head) (e : RemoteEntityConfig) (closure : Bool) (type n : ℕ) (source destination : List ℕ)
     → Tells (too_long h e source destination) (e.maxpacket < length (encode h (metadata closure type n source destination)))
 unfolding too_long pdu_length
 tells_long h e closure type n source destination = rw (length-encode h (metadata closure type n source destination)) (tells_ltb _ _)
 
-pub put-exactly : PutExactly
+pub put_exactly : PutExactly
 unfolding put_outcome put_answer
-put-exactly s c q source destination S =
+put_exactly s c q source destination S =
     let v = q.destination.1 in
     let e = entry_of c v in
     rw (answer-by s (put_state s c q source destination S) (put_answer s c q source destination S))

@@ -419,8 +419,8 @@ loosened w s i =
       awake = not-idle w s i;
     })
 
-pub nak-answered : NakAnswered
-nak-answered h c q source destination file b z a cs k f g bytes n x ds j y m =
+pub nak_answered : NakAnswered
+nak_answered h c q source destination file b z a cs k f g bytes n x ds j y m =
     let p = put-passed h c q source destination (length file) a in
     let s = (put_outcome h c q source destination (length file)).state in
     let v = carries h c q source destination file p b z in
@@ -436,5 +436,5 @@ bench_sheet h c q source destination file b z a cs k f g none-pending bytes n x 
     let la = ap length all in
     let lw = length-answers w.segment (requests bytes) in
     let t = (deliver_outcome (behind cs s) bytes).state in
-    let r = nak-answered h c q source destination file b z a cs k f g bytes (omega arith) x ds j y (omega arith) in
+    let r = nak_answered h c q source destination file b z a cs k f g bytes (omega arith) x ds j y (omega arith) in
     (rw all at r) ∙ take_all (step_count (trace ds t)) (map (meant w) (answers w.segment (requests bytes))) (rw (length-map (answers w.segment (requests bytes)) (meant w)) (omega arith))

@@ -224,9 +224,9 @@ module _ (s : State) (file : List ℕ) (expired : Bool) (out : List ℕ) (a : (s
       let t = step-taken s file expired (length out) a in
       rw (pdu-is, laid_in_front, t.length-is) (sym (in_front_lem out (bytes_due s file expired) t.fits) ∙ front out (bytes_due s file expired) t.fits)
 
-pub due-says : DueSays
+pub due_says : DueSays
 unfolding h
-due-says =
+due_says =
     record {
       written = λ s file expired out g a.
           pdu-is s file expired out a ∙ named-written s file expired (due_of s expired) g (due_applies s expired);
@@ -271,8 +271,8 @@ eof-tied s file (FaultAbandon c) = untied (λ e. e)
 eof-tied s file Close = untied (close-no-eof s file)
 eof-tied s file Nothing = untied (λ e. e)
 
-pub step-emits : StepEmits
-step-emits =
+pub step_emits : StepEmits
+step_emits =
     record {
       buffer = λ s file expired out a. behind_it s file expired out a;
       state = λ s file expired room a. (step-taken s file expired room a).state-is;

@@ -303,9 +303,9 @@ unfolding behind end
 behind-singles [] cs s = refl
 behind-singles (p ∷ ps) cs s = behind-singles ps cs (after p s)
 
-pub burst-counts : BurstCounts
+pub burst_counts : BurstCounts
 unfolding trace behind
-burst-counts s file expired count out cs =
+burst_counts s file expired count out cs =
     let c = burst file expired count out in
     let k = call_run c s in (
       ap₂ (λ (a : List Shown) (t : State). a ++ trace cs t) (sym k.0) (sym k.1) ∙ sym (trace-singles (singles c s) cs s),

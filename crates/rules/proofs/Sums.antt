@@ -58,11 +58,11 @@ use Rattle.rules.proofs.Outcomes.{answer-by, state-by, cancel-by, delivered-by}
 use Rattle.rules.proofs.Emits.{lent_length}
 use Rattle.rules.proofs.Singly.{run, end, singly, as_run, as_end, as_proper, as_lends, LendsAll}
 use Rattle.rules.proofs.Summed.{next_piece, sum-behind, OfFile, of-file-on}
-use Rattle.rules.proofs.Makes.{put-makes}
+use Rattle.rules.proofs.Makes.{put_makes}
 use Rattle.rules.proofs.Applies.{due_applies}
 use Rattle.rules.proofs.GoodPut.{put-good}
-use Rattle.rules.proofs.Good.{awake-under, call_good, good-kept, always_good}
-use Rattle.rules.proofs.Says.{step-taken, due-says, answer-no-eof, close-no-eof}
+use Rattle.rules.proofs.Good.{awake-under, call_good, good_kept, always_good}
+use Rattle.rules.proofs.Says.{step-taken, due_says, answer-no-eof, close-no-eof}
 
 -- ---- the file data that a PDU carries
 
@@ -77,7 +77,7 @@ data_with h (some m) = refl
 data_of : (s : State) (lent : List ℕ) (expired : Bool) (out : List ℕ) → Good s → Bytes lent → (step_outcome s lent expired (length out)).answer ≡ Accepted
     → file_data_of (pdu_of s lent expired out) ≡ data_in (named s lent (due_of s expired))
 unfolding file_data_of
-data_of s lent expired out g b a = ap data_of_pdu (due-says.says s lent expired out g b a) ∙ data_with s.fixed.head (named s lent (due_of s expired))
+data_of s lent expired out g b a = ap data_of_pdu (due_says.says s lent expired out g b a) ∙ data_with s.fixed.head (named s lent (due_of s expired))
 
 -- ---- what a step does to progress and number
 
@@ -305,7 +305,7 @@ all_held : (n : TransactionSeqNum) (cs : List Call) → Proper cs → Held (sent
 unfolding new_outcome idle
 all_held n cs p =
     rw (as_run cs (new_outcome n), as_end cs (new_outcome n))
-    (run-held (singly cs (new_outcome n)) [] (new_outcome n) (as_proper cs (new_outcome n) p) (good-kept.new n) (idle-held [] (new_outcome n) refl))
+    (run-held (singly cs (new_outcome n)) [] (new_outcome n) (as_proper cs (new_outcome n) p) (good_kept.new n) (idle-held [] (new_outcome n) refl))
 
 pub sum_kept : SumKept
 unfolding idle
@@ -366,8 +366,8 @@ module _ (s : State) (lent bs : List ℕ) (g : Good s) (k : (s.file.sum ≡ sum_
   due_sums expired _ (item_8 f e) i = absurd (close-no-eof s lent i)
   due_sums expired _ (item_9 f w) i = absurd i
 
-pub sum-of-the-sent : SumOfTheSent
-sum-of-the-sent n cs p lent expired out b a e = go (is_idle s.step) refl
+pub sum_of_the_sent : SumOfTheSent
+sum_of_the_sent n cs p lent expired out b a e = go (is_idle s.step) refl
   where
     s : State
     s = behind cs (new_outcome n)
@@ -382,10 +382,10 @@ sum-of-the-sent n cs p lent expired out b a e = go (is_idle s.step) refl
     g = always_good n cs p
 
     written : pdu_of s lent expired out ≡ bytes_of s.fixed.head x
-    written = due-says.written s lent expired out (λ _. g.queue) a
+    written = due_says.written s lent expired out (λ _. g.queue) a
 
     read : Sums s bs x → (condition : ℕ) × (decode (pdu_of s lent expired out) ≡ some (record { head = s.fixed.head; said = eof condition (sum_of s.fixed.checksum bs) (length bs) }))
-    read y = (y.0, due-says.says s lent expired out g b a ∙ ap (with_head s.fixed.head) y.1)
+    read y = (y.0, due_says.says s lent expired out g b a ∙ ap (with_head s.fixed.head) y.1)
 
     go : (i : Bool) → is_idle s.step ≡ i → (condition : ℕ) × (decode (pdu_of s lent expired out) ≡ some (record { head = s.fixed.head; said = eof condition (sum_of s.fixed.checksum bs) (length bs) }))
     go true i =
@@ -500,12 +500,12 @@ pub same_link : SameLink
 same_link h c q source destination file b l a cs p f n expired out x =
     let s = (put_outcome h c q source destination (length file)).state in
     let t = behind cs s in
-    let m = put-makes h c q source destination (length file) a in
+    let m = put_makes h c q source destination (length file) a in
     let of : OfFile file s = m.sum ∙ sym (goes_on.0 s.fixed.checksum) ∙ ap (λ (v : ℕ). sum_of s.fixed.checksum (take v file)) (sym m.progress) in
     let r = run_lent file (singly cs s) s (as_proper cs s p) (as_lends file cs s f) (rw (as_run cs s) at n) (started-good h c q source destination (length file) l a)
     (inr (m.copied.0, of)) in
     let y : Good t × Lent file t = rw (as_end cs s) r in
-    due-says.written t file expired out (λ _. y.0.queue) x ∙ ap (bytes_of t.fixed.head) (said_before file t expired y.0 y.1)
+    due_says.written t file expired out (λ _. y.0.queue) x ∙ ap (bytes_of t.fixed.head) (said_before file t expired y.0 y.1)
 
 -- ---- what is read
 

@@ -269,6 +269,6 @@ byte_cases =
     ∷ (put_no unack_remote a (0xED ∷ 0xA0 ∷ 0x80 ∷ []) gives 7)
     ∷ []
 
--- CASES byte-cases: the definitions give what document 01 writes, case by case.
+-- CASES byte_cases: the definitions give what document 01 writes, case by case.
 abbrev pub ByteCases : Type 0
 ByteCases = Hold byte_cases

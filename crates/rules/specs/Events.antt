@@ -82,7 +82,7 @@ Acknowledged s = s.fixed.head.unacknowledged ≡ false
 abbrev pub Unacknowledged : State → Type 0
 Unacknowledged s = s.fixed.head.unacknowledged ≡ true
 
--- CASES event-cases: each case gives these events, in this order, and no other.
+-- CASES event_cases: each case gives these events, in this order, and no other.
 pub record EventCases : Type 0 where
   pub metadata : (s : State) → Tells s Metadata (transaction (whose s) ∷ [])
   pub silent : (s : State) → Tells s Repair [] × Tells s Data [] × Tells s Nothing []

@@ -16,7 +16,7 @@ abbrev pub Chosen : Choice → Bool → Bool → Type 0
 Chosen (Given word) entry b = b ≡ word
 Chosen Default entry b = b ≡ entry
 
--- the state t that a put makes; e is the entry found (first-entry), and what holds of `larger`, `is_large` and `segment_length` is numbers-exactly
+-- the state t that a put makes; e is the entry found (first_entry), and what holds of `larger`, `is_large` and `segment_length` is numbers_exactly
 pub record PutMade (s : State) (c : LocalEntityConfig) (q : PutRequest) (source destination : List ℕ) (S : ℕ) (t : State) : Type 0 where
   -- "Put ends in SendingMetadata, with progress, queue, condition and cancel mark cleared."
   pub step : t.step ≡ SendingMetadata

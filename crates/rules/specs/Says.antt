@@ -131,7 +131,7 @@ pub record StepEmits : Type 0 where
   -- the state is the one after the case that is due (step-leaves says which, field by field)
   pub state : (s : State) (file : List ℕ) (expired : Bool) (room : ℕ) → (step_outcome s file expired room).answer ≡ Accepted
       → (step_outcome s file expired room).state ≡ after_of s file (due_of s expired)
-  -- the events are those of the case that is due (event-cases)
+  -- the events are those of the case that is due (event_cases)
   pub events : (s : State) (file : List ℕ) (expired : Bool) (room : ℕ) → (step_outcome s file expired room).answer ≡ Accepted
       → (step_outcome s file expired room).events ≡ events_of s (due_of s expired)
   -- "Each EOF gives an EOF-sent event; .. only if the configuration's flag is set."

@@ -1,5 +1,5 @@
 -- Request R-2, "Keep the running checksum of the first-pass bytes": of which bytes the stored number is, that nothing changes on the link while the same file is lent,
--- and that a step reads no byte of the file but those that it sends. What is said here of a step holds of each step of a burst: these are the same steps (burst-is-steps). Proofs: proofs/Sums.antt, Joined.antt.
+-- and that a step reads no byte of the file but those that it sends. What is said here of a step holds of each step of a burst: these are the same steps (burst_is_steps). Proofs: proofs/Sums.antt, Joined.antt.
 -- Assumes nothing.
 use Rattle.std.specs.Prelude.{◌≡◌, Bool, true, List, [], ◌∷◌, ◌++◌, ℕ, ◌^◌, ◌<◌, eqb, length, take, drop}
 use Rattle.std.proofs.Math.Option.{Option, none, some}

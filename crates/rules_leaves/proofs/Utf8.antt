@@ -98,10 +98,10 @@ left (b ∷ s) (r ∷ rs) e =
     cases (λ (d : Due). complete (due_after d s) ≡ true → Rest (r ∷ rs) (b ∷ s)) (within r b) (wants rs) broken
     (λ p e. (within_in r b p, left s rs e)) (λ p e. never s e) e
 
-pub utf8-exactly : Utf8Exactly
+pub utf8_exactly : Utf8Exactly
 unfolding is_utf8
-utf8-exactly s = (left s [], taken)
+utf8_exactly s = (left s [], taken)
 
-pub utf8-cases : Utf8Cases
+pub utf8_cases : Utf8Cases
 unfolding is_utf8 flat_map
-utf8-cases = (refl, refl, refl)
+utf8_cases = (refl, refl, refl)

@@ -54,8 +54,8 @@ segment-is : (maxsegment maxpacket : ℕ) (h : Head) → let around = H h + F h.
 unfolding segment_length
 segment-is m p h l = by-segment (leb m (p - H h - F h.large - C h.crc)) m p (H h) (F h.large) (C h.crc) refl l
 
-pub numbers-exactly : NumbersExactly
-numbers-exactly =
+pub numbers_exactly : NumbersExactly
+numbers_exactly =
     record {
       fitting = fitting-is;
       largest = largest-is;

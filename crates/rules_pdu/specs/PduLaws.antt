@@ -55,7 +55,7 @@ Hearable large (keep_alive p) = p < 2 ^ (8 * F large)
 
 -- ---- the laws
 
--- LAW round-trip: for every meaning that a sender can write, reading what was written gives the meaning back: alone, and with anything behind it, its own
+-- LAW round_trip: for every meaning that a sender can write, reading what was written gives the meaning back: alone, and with anything behind it, its own
 -- length reported.
 pub record RoundTrip (h : Head) (m : Said) : Type 0 where
   pub alone : decode (encode h m) ≡ some (record { head = h; said = m })
@@ -65,24 +65,24 @@ pub record RoundTrip (h : Head) (m : Said) : Type 0 where
 abbrev pub RoundTrips : Type 0
 RoundTrips = (h : Head) (m : Said) → Fit h → Sayable h m → RoundTrip h m
 
--- LAW same-bytes: two meanings with the same bytes are one.
+-- LAW same_bytes: two meanings with the same bytes are one.
 abbrev pub SameBytes : Type 0
 SameBytes =
     (h g : Head) (m n : Said) → Fit h → Fit g → Sayable h m → Sayable g n → encode h m ≡ encode g n → (h ≡ g) × (m ≡ n)
 
--- LAW crc-checks: with the CRC flag, the last two bytes of a written PDU are the CRC-16 of all before them.
+-- LAW crc_checks: with the CRC flag, the last two bytes of a written PDU are the CRC-16 of all before them.
 abbrev pub CrcChecks : Type 0
 CrcChecks =
     (h : Head) (m : Said) → Fit h → h.crc ≡ true
     → num_at (encode h m) (length (encode h m) - 2) 2 ≡ crc16 (take (length (encode h m) - 2) (encode h m))
 
--- LAW length-agrees: a written PDU is as long as its definition says, and its length field says so.
+-- LAW length_agrees: a written PDU is as long as its definition says, and its length field says so.
 abbrev pub LengthAgrees : Type 0
 LengthAgrees =
     (h : Head) (m : Said) → Fit h → Sayable h m
     → (length (encode h m) ≡ pdu_length h m) × (H h + length_in (encode h m) ≡ length (encode h m))
 
--- LAW spare-zero: "Spare bits, segmentation control and segment metadata flag are written 0": each byte that holds some is what its other bits make it.
+-- LAW spare_zero: "Spare bits, segmentation control and segment metadata flag are written 0": each byte that holds some is what its other bits make it.
 abbrev pub SpareZero : Type 0
 SpareZero =
     (h : Head) → Fit h
@@ -95,11 +95,11 @@ SpareZero =
     -- behind an ACK's second byte: "condition 4, spare 2, status 2"
     × ((c t : ℕ) → c < 16 → t < 4 → byte (encode h (ack_finished c t)) (H h + 2) ≡ c * 16 + t)
 
--- LAW written-exactly: a writer's answer is that the buffer is too small exactly if the bytes are longer than it, and else their number.
+-- LAW written_exactly: a writer's answer is that the buffer is too small exactly if the bytes are longer than it, and else their number.
 abbrev pub WrittenExactly : Type 0
 WrittenExactly = (bs out : List ℕ) → (length out < length bs → written_of bs out ≡ Short) × (length bs ≤ length out → written_of bs out ≡ Wrote (length bs))
 
--- LAW headers-differ: two different headers of equal widths never have the same bytes.
+-- LAW headers_differ: two different headers of equal widths never have the same bytes.
 abbrev pub HeadersDiffer : Type 0
 HeadersDiffer =
     (h g : Head) (a b c d : Bool) (n k : ℕ) → Fit h → Fit g → n < 65536 → k < 65536
@@ -123,7 +123,7 @@ requests_of (keep_alive p) = []
 abbrev pub first_pair : Head → ℕ
 first_pair h = H h + 1 + F h.large + F h.large
 
--- LAW heard-read: whatever a peer writes by the layouts is not refused, with anything behind it, and has the meaning, and the requests, that the peer gave it; its
+-- LAW heard_read: whatever a peer writes by the layouts is not refused, with anything behind it, and has the meaning, and the requests, that the peer gave it; its
 -- own length is reported.
 abbrev pub HeardRead : Type 0
 HeardRead =
@@ -140,7 +140,7 @@ pub data Tlvs : List ℕ → Type 0 where
   end : Tlvs []
   tlv : {t : ℕ} {s : List ℕ} → (t ≡ 1) ⊎ (t ≡ 6) → (value : List ℕ) → Tlvs s → Tlvs (t ∷ length value ∷ (value ++ s))
 
--- LAW tlvs-exactly: the test of a Finished PDU's end says yes exactly to runs of TLVs of type 1 and 6, each closing inside the body.
+-- LAW tlvs_exactly: the test of a Finished PDU's end says yes exactly to runs of TLVs of type 1 and 6, each closing inside the body.
 abbrev pub TlvsExactly : Type 0
 TlvsExactly = (s : List ℕ) → (are_tlvs s ≡ true) ↔ Tlvs s
 
@@ -161,14 +161,14 @@ pub data ByLayout (large : Bool) (b : List ℕ) : Body → Type 0 where
   of_finished : (c t : ℕ) → c < 16 → t < 4 → reserved c ≡ false → wire (layout large (ack_finished c t)) ≡ cleared b → ByLayout large b CantProcess
   unread : (code : ℕ) (rest : List ℕ) → (code ≡ 4) ⊎ (code ≡ 7) ⊎ (code ≡ 9) → code ∷ rest ≡ b → ByLayout large b CantProcess
 
--- LAW body-exactly: a body is Malformed exactly if the layouts give it nothing, and else comes to what they give.
+-- LAW body_exactly: a body is Malformed exactly if the layouts give it nothing, and else comes to what they give.
 abbrev pub BodyExactly : Type 0
 BodyExactly =
     (large : Bool) (b : List ℕ) → Bytes b
     → ((directive_in large (byte b 0) b ≡ Malformed) ↔ ((r : Body) → ByLayout large b r → ⊥))
     × ((r : Body) → ByLayout large b r → directive_in large (byte b 0) b ≡ r)
 
--- LAW routed-exactly: file data is 21; a directive is Malformed exactly if the layouts give its body nothing, and else comes to what they give
+-- LAW routed_exactly: file data is 21; a directive is Malformed exactly if the layouts give its body nothing, and else comes to what they give
 -- towards the sender, and to 21 towards the receiver.
 abbrev pub RoutedExactly : Type 0
 RoutedExactly =
@@ -178,11 +178,11 @@ RoutedExactly =
     × (f.filedata ≡ false → (r : Body) → ByLayout f.head.large b r
     → (f.tosender ≡ true → body_of f b ≡ r) × (f.tosender ≡ false → body_of f b ≡ CantProcess))
 
--- LAW widths-exactly: "width 1, 2, 4 or 8 bytes"
+-- LAW widths_exactly: "width 1, 2, 4 or 8 bytes"
 abbrev pub WidthsExactly : Type 0
 WidthsExactly = (w : ℕ) → (good_width w ≡ true) ↔ ((w ≡ 1) ⊎ (w ≡ 2) ⊎ (w ≡ 4) ⊎ (w ≡ 8))
 
--- LAW reserved-exactly: "Conditions 12 and 13 are reserved"
+-- LAW reserved_exactly: "Conditions 12 and 13 are reserved"
 abbrev pub ReservedExactly : Type 0
 ReservedExactly = (c : ℕ) → (reserved c ≡ true) ↔ ((c ≡ 12) ⊎ (c ≡ 13))
 
@@ -202,7 +202,7 @@ pub record IsPdu (s : List ℕ) (f : Frame) (body fill : List ℕ) : Type 0 wher
   pub ends : f.end ≡ H f.head + length body
   pub belong : f.length ≡ length (front ++ trailer f.head.crc front)
 
--- LAW frame-exactly: bytes are Malformed exactly if they are no PDU by the layouts with any fill behind it; else their header, frame and body are read as they stand, and
+-- LAW frame_exactly: bytes are Malformed exactly if they are no PDU by the layouts with any fill behind it; else their header, frame and body are read as they stand, and
 -- the length is the PDU's own.
 abbrev pub FrameExactly : Type 0
 FrameExactly =
@@ -210,7 +210,7 @@ FrameExactly =
     → ((framed_in s ≡ NoFrame) ↔ ((f : Frame) (body fill : List ℕ) → IsPdu s f body fill → ⊥))
     × ((f : Frame) (body fill : List ℕ) → IsPdu s f body fill → (framed_in s ≡ Whole f) × (body_in s ≡ body))
 
--- LAW own-read: of bytes that hold a whole PDU, as many as their header says, only these are read: two that agree on them are read alike.
+-- LAW own_read: of bytes that hold a whole PDU, as many as their header says, only these are read: two that agree on them are read alike.
 pub record OwnRead (a b : List ℕ) : Type 0 where
   pub framed : framed_in a ≡ framed_in b
   pub frame : frame_in a ≡ frame_in b
@@ -233,7 +233,7 @@ pub record IsSaid (s : List ℕ) (p : Pdu) (fill : List ℕ) : Type 0 where
   pub sayable : Sayable p.head p.said
   pub says : wire (layout p.head.large p.said) ≡ pick (is_file_data p.said) body (cleared body)
 
--- LAW decode-exactly: bytes are read as a sender's PDU exactly if they are that PDU by the layouts, and as none exactly if they are none; with any fill behind it, or with none.
+-- LAW decode_exactly: bytes are read as a sender's PDU exactly if they are that PDU by the layouts, and as none exactly if they are none; with any fill behind it, or with none.
 abbrev pub DecodeExactly : Type 0
 DecodeExactly =
     (s : List ℕ) → Bytes s

@@ -21,7 +21,7 @@ use borrow.Rule.Slice.PartMut.{mid_of, put_mid}
 use Rattle.basis.specs.Laid.{in_front}
 use Rattle.seam_rules.specs.Memory.{flag_of, state_of, held_of, reported, report_of, no_report}
 use Rattle.seam_rules.specs.Seam.{step_done, step_out, last_report, burst_by, burst_done, burst_out}
-use Rattle.seam_rules.proofs.Laws.{memory_follows, memory_untouched, report-told, config-stays}
+use Rattle.seam_rules.proofs.Laws.{memory_follows, memory_untouched, report_told, config_stays}
 use Rattle.types.specs.declared.State.{State}
 use Rattle.types.specs.declared.Stepped.{Stepped}
 use Rattle.types.specs.declared.Bursted.{Bursted}
@@ -389,9 +389,9 @@ turned-step u file expired room =
     let f = memory_follows.step u file expired room in
     record {
       says = f.0;
-      config = config-stays.step u file expired room;
+      config = config_stays.step u file expired room;
       state = f.1;
-      report = λ e. report-told.step u file expired room (f.0 ∙ e);
+      report = λ e. report_told.step u file expired room (f.0 ∙ e);
       refused = λ e. (memory_untouched.step u file expired room (λ i. e (sym f.0 ∙ i))).0;
     }
 

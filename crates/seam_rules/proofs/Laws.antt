@@ -25,7 +25,7 @@ use Rattle.types.specs.declared.Made.{Made}
 use Rattle.types.specs.declared.Bursted.{Bursted}
 use Rattle.rules.proofs.Exactly.{numbered, refusal_changes_nothing}
 use Rattle.rules.proofs.Singly.{burst-one-by-one}
-use Rattle.rules.proofs.Bursts.{burst-is-steps}
+use Rattle.rules.proofs.Bursts.{burst_is_steps}
 use Rattle.seam_rules.specs.Memory.{flag_of, state_of, config_of, held_of, reported, report_of, no_report, request_of}
 use Rattle.seam_rules.specs.Seam.{by_answer, by_word, new_done, put_done, deliver_done, step_done, step_out, burst_report, last_report, burst_held, burst_by, burst_done, burst_out, cancel_done, reset_done}
 use Rattle.seam_rules.specs.Follows.{MemoryFollows, MemoryUntouched, ReportTold, told_in, BurstsTold, ConfigStays}
@@ -33,7 +33,7 @@ use Rattle.seam_rules.specs.declared.memory.Report.{Report}
 use Rattle.seam_rules.specs.declared.memory.BurstReport.{BurstReport}
 use Rattle.seam_rules.specs.declared.memory.Handler.{Handler}
 use Rattle.seam_rules.specs.declared.Done.{Done}
-use Rattle.seam_rules.proofs.Round.{state-kept}
+use Rattle.seam_rules.proofs.Round.{state_kept}
 
 -- ---- by an answer
 
@@ -42,7 +42,7 @@ code_is h s r Accepted = refl
 code_is h s r (Refused k) = refl
 
 follows : (h : Handler) (s : State) (r : Report) (a : Answer) → ((¬ (answer_no a ≡ 0)) → s ≡ state_of h) → state_of (by_answer h s r a).held ≡ s
-follows h s r Accepted same = state-kept h.config s r
+follows h s r Accepted same = state_kept h.config s r
 follows h s r (Refused k) same = sym (same (numbered k))
 
 untouched : (h : Handler) (s : State) (r : Report) (a : Answer) → (¬ ((by_answer h s r a).code ≡ 0)) → (by_answer h s r a).held ≡ h
@@ -72,7 +72,7 @@ burst-nothing h b e = rw e refl
 -- .. and what was there is the state behind them
 burst-stored : (h : Handler) (b : Bursted) → (b.count ≡ 0 → b.state ≡ state_of h) → state_of (burst_held h b) ≡ b.state
 burst-stored h b none =
-    cases (λ (d : Handler). state_of d ≡ b.state) (eqb b.count 0) _ _ (λ e. sym (none (eqb-true b.count 0 e))) (λ _. state-kept h.config b.state _)
+    cases (λ (d : Handler). state_of d ≡ b.state) (eqb b.count 0) _ _ (λ e. sym (none (eqb-true b.count 0 e))) (λ _. state_kept h.config b.state _)
 
 burst-follows : (h : Handler) (r : BurstReport) (b : Bursted) (a : Answer) → (b.count ≡ 0 → b.state ≡ state_of h) → ((¬ (answer_no a ≡ 0)) → b.state ≡ state_of h)
     → state_of (burst_by h r b a).held ≡ b.state
@@ -122,7 +122,7 @@ word-is h s true = refl
 word-is h s false = refl
 
 word-follows : (h : Handler) (s : State) (b : Bool) → (b ≡ false → s ≡ state_of h) → state_of (word h s b).held ≡ s
-word-follows h s true same = state-kept h.config s _
+word-follows h s true same = state_kept h.config s _
 word-follows h s false same = sym (same refl)
 
 word-untouched : (h : Handler) (s : State) (b : Bool) → (word h s b).code ≡ 0 → (word h s b).held ≡ h
@@ -146,7 +146,7 @@ unfolding new_done put_done deliver_done step_done step_out burst_done burst_out
 memory_follows =
     let same = refusal_changes_nothing in
     record {
-      new = λ h width number. (refl, state-kept h.config (new_outcome (width, number)) _);
+      new = λ h width number. (refl, state_kept h.config (new_outcome (width, number)) _);
       put = λ h width entity unacknowledged closure source destination size.
           let c = config_of h.config in
           let q = request_of width entity unacknowledged closure in
@@ -170,7 +170,7 @@ memory_follows =
       cancel = λ h sourcewidth source numberwidth number.
           let r = cancel_outcome (state_of h) (sourcewidth, source) (numberwidth, number) in
           (word-is h r.state r.yes, word-follows h r.state r.yes (same.cancel (state_of h) (sourcewidth, source) (numberwidth, number)));
-      reset = λ h. (refl, state-kept h.config (reset_outcome (state_of h)) _);
+      reset = λ h. (refl, state_kept h.config (reset_outcome (state_of h)) _);
     }
 
 pub memory_untouched : MemoryUntouched
@@ -198,9 +198,9 @@ memory_untouched =
           word-untouched h r.state r.yes;
     }
 
-pub report-told : ReportTold
+pub report_told : ReportTold
 unfolding held_of new_done put_done deliver_done step_done cancel_done reset_done
-report-told =
+report_told =
     record {
       new = λ h width number. refl;
       put = λ h width entity unacknowledged closure source destination size.
@@ -233,14 +233,14 @@ bursts-told h r file expired count out z =
     a = burst-accepted h r b b.answer z
 
     long : length (map reported (made_in b)) ≡ b.count
-    long = length-map (made_in b) reported ∙ (burst-is-steps (state_of h) file (flag_of expired) count out a).places.0
+    long = length-map (made_in b) reported ∙ (burst_is_steps (state_of h) file (flag_of expired) count out a).places.0
 
     told_in_lem : told_in (burst_report r b) ≡ map reported (made_in b)
     told_in_lem = take_at (map reported (made_in b)) _ b.count long
 
-pub config-stays : ConfigStays
+pub config_stays : ConfigStays
 unfolding held_of new_done put_done deliver_done step_done burst_done cancel_done reset_done
-config-stays =
+config_stays =
     record {
       new = λ h width number. refl;
       put = λ h width entity unacknowledged closure source destination size.

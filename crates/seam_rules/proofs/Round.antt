@@ -49,9 +49,9 @@ marks-kept : (m : Marks) → marks_taken (marks_stored m) ≡ m
 unfolding marks_taken marks_stored
 marks-kept m = rw (flag-kept m.cancelled, flag-kept m.owed)
 
-pub state-kept : StateKept
+pub state_kept : StateKept
 unfolding state_of held_of
-state-kept c s r = rw (step_kept s.step, fixed_kept s.fixed, marks-kept s.marks)
+state_kept c s r = rw (step_kept s.step, fixed_kept s.fixed, marks-kept s.marks)
 
 -- ---- the events
 
@@ -70,9 +70,9 @@ timer_kept NoTimer = refl
 timer_kept AckTimer = refl
 timer_kept CheckTimer = refl
 
-pub events-kept : EventsKept
+pub events_kept : EventsKept
 unfolding reported
-events-kept m = (
+events_kept m = (
   refl,
   λ i. record {
     id = m.events.id;

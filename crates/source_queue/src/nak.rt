@@ -28,7 +28,7 @@ pub fn first_pair(n: usize, large: bool, start: usize) -> usize
 }
 
 // What one pass over the requests finds.
-#[derive(Drop)]
+#[derive(Clone, Copy)]
 pub struct Judged {
     // one of them is invalid
     pub invalid: bool,

@@ -8,7 +8,7 @@ ghost use Rattle.rules_leaves.specs.Utf8.{◌to◌, forms, within, broken, begun
 ghost use Rattle.utf8.specs.Meant.{meant};
 
 // What is due: a character or the end; so many tails; the narrower second byte after E0, ED, F0 or F4, and its tails. After Broken, nothing helps.
-#[derive(Drop)]
+#[derive(Clone, Copy)]
 enum Wait {
     Any,
     One,

@@ -8,7 +8,7 @@ use std::io;
 use types::Checksum;
 
 // Whether a vector agrees, and where the next one begins.
-#[derive(Drop)]
+#[derive(Clone, Copy)]
 pub struct Ran {
     pub ok: bool,
     pub next: usize,
