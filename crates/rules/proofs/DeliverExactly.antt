@@ -31,7 +31,7 @@ use Rattle.types.specs.declared.State.{State}
 use Rattle.types.specs.declared.TransactionStep.TheVariants.{Idle, SendingMetadata, WaitingForEofAck, WaitingForFinished, Closing}
 use Rattle.types.specs.declared.Refusal.TheVariants.{UnexpectedPdu, OtherTransaction, InvalidNakPdu, RetransmitFull}
 use Rattle.rules_pdu.proofs.Heard.{tlvs_exactly}
-use Rattle.rules_pdu.proofs.ExactBody.{reserved-exactly}
+use Rattle.rules_pdu.proofs.ExactBody.{reserved_exactly}
 use Rattle.rules.proofs.Tells.{Tells, Fails, tests, tells_eqb, tells_ltb, tells_flag, never, fails_not, tells_map, tells_both, tells_either, tells_not, tells_denied, iff_tells, tells_idle, tells_step}
 use Rattle.rules.proofs.Order.{First, line, passes, here, there, exactly}
 use Rattle.rules.proofs.Outcomes.{answer-by}
@@ -70,7 +70,7 @@ reads_last {b = true} t = isgood (t.no refl)
 reads_last {b = false} t = isbad (t.yes refl)
 
 tells_reserved : (c : ℕ) → Tells (reserved c) (Reserved c)
-tells_reserved c = iff_tells (reserved-exactly c)
+tells_reserved c = iff_tells (reserved_exactly c)
 
 nak_reads : (large : Bool) (b : List ℕ) → Reads Malformed (Means (Nak (request_count large (length b)))) (BadNak large b) (nak_in large b)
 unfolding nak_in

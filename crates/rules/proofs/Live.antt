@@ -40,7 +40,7 @@ use Rattle.types.specs.declared.Sending.{Sending}
 use Rattle.types.specs.declared.Sending.TheVariants.{Nothing as NoPdu, Metadata as MetadataPdu, FileData, Eof as EofPdu, AckFinished}
 use Rattle.types.specs.declared.Answer.TheVariants.{Accepted}
 use Rattle.rules_pdu.proofs.Round.{length-encode}
-use Rattle.rules_pdu.proofs.Heard.{heard-read}
+use Rattle.rules_pdu.proofs.Heard.{heard_read}
 use Rattle.rules.proofs.Outcomes.{differ, answer-by, state-by}
 use Rattle.rules.proofs.Tiles.{sizes, sizes-tiles, length-tiles}
 use Rattle.rules.proofs.Emits.{bytes_of, same_bytes, StepShows, step-shows}
@@ -271,7 +271,7 @@ pub nak_asks : NakAsks
 unfolding requests
 nak_asks h from upto rs fill f y l =
     let s = encode_heard h (nak from upto rs) ++ fill in
-    let r = heard-read h (nak from upto rs) fill f y l in
+    let r = heard_read h (nak from upto rs) fill f y l in
     ap (requests_of_frame s) r.0
     ∙ ap (requests_of_body s (frame_in s)) (ap (body_of (frame_in s)) (body_same s) ∙ r.3)
     ∙ asked-at s (frame_in s) h (length rs) r.1 (start_same s)

@@ -22,14 +22,14 @@ use Rattle.types.specs.declared.Head.{Head}
 use Rattle.types.specs.declared.RemoteEntityConfig.{RemoteEntityConfig}
 use Rattle.types.specs.declared.LocalEntityConfig.{LocalEntityConfig}
 use Rattle.types.specs.declared.Refusal.TheVariants.{AlreadyBusy, BadIdWidth, NoRemoteCfgFound, BadConfig, BadNameLength, SourceFileNotValidUtf8, DestFileNotValidUtf8, PacketLimit}
-use Rattle.rules_pdu.proofs.Round.{widths-exactly, length-encode}
+use Rattle.rules_pdu.proofs.Round.{widths_exactly, length-encode}
 use Rattle.rules.proofs.Tells.{Tells, Fails, tests, tells_eqb, tells_ltb, fails_leb, fails_not, never, tells_not, tells_denied, fails_either, iff_tells, fails_iff, tells_idle}
 use Rattle.rules.proofs.Order.{line, passes, exactly}
 use Rattle.rules.proofs.Outcomes.{answer-by}
 use Rattle.rules_leaves.proofs.Utf8.{utf8_exactly}
 
 pub tells_width : (w : ℕ) → Tells (good_width w) (Width w)
-tells_width w = iff_tells (widths-exactly w)
+tells_width w = iff_tells (widths_exactly w)
 
 pub tells_fits : (w v : ℕ) → Tells (fits w v) (Within w v)
 unfolding fits

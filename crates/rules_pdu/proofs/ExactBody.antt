@@ -28,9 +28,9 @@ use Rattle.rules_pdu.proofs.Places.{At, at_start, past, byte_at, whole_length}
 use Rattle.rules_pdu.proofs.Spare.{ack-byte}
 use Rattle.rules_pdu.proofs.Heard.{tlvs_exactly, one_byte, heard-body}
 
-pub reserved-exactly : ReservedExactly
+pub reserved_exactly : ReservedExactly
 unfolding reserved
-reserved-exactly c = (
+reserved_exactly c = (
   cases (λ (b : Bool). b ≡ true → (c ≡ 12) ⊎ (c ≡ 13)) (eqb c 12) true (eqb c 13) (λ p e. inl (eqb-true c 12 p)) (λ p e. inr (eqb-true c 13 e)),
   back,
 )
@@ -260,8 +260,8 @@ given (heard m y e) q = false≢true (cc q)
 given (of_finished c t k l r e) q = false≢true (cc q)
 given (unread code rest k e) q = false≢true (cc q)
 
-pub body-exactly : BodyExactly
-body-exactly large b y = (
+pub body_exactly : BodyExactly
+body_exactly large b y = (
   (λ e r p. given p (sym (comes large b r p) ∙ e), λ n. none-given (judged large b y) n),
   comes large b,
 )

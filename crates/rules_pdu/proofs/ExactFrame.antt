@@ -297,9 +297,9 @@ some-pdu (a ∷ b ∷ []) y t = absurd (omega (arith, t.long))
 some-pdu (a ∷ b ∷ c ∷ []) y t = absurd (omega (arith, t.long))
 some-pdu (a ∷ b ∷ c ∷ d ∷ r) y t = is-pdu a b c d r y t
 
-pub frame-exactly : FrameExactly
+pub frame_exactly : FrameExactly
 unfolding framed_in
-frame-exactly s y = (
+frame_exactly s y = (
   (
     λ e f body fill p. false≢true (cc (e, (read_as_it_stands s y f body fill p).0)),
     λ n. cases (λ (x : Framed). x ≡ Malformed) (well_framed s) _ _ (λ t. let p = some-pdu s y (tests s t) in absurd (n p.0 p.1 p.2 p.3)) (λ t. refl),

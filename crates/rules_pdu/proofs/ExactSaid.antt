@@ -253,8 +253,8 @@ module _ (s : List ℕ) (y : Bytes s) where
   is-alone : {p : Pdu} → IsSaid s p [] → decode s ≡ some p
   is-alone i = alone-read (frames y i.framed) ∙ is_read y i
 
-pub decode-exactly : DecodeExactly
-decode-exactly s y = (
+pub decode_exactly : DecodeExactly
+decode_exactly s y = (
   λ p. (λ e. subst (Decoded s) e (decoded s y), λ i. is_read y i.1),
   (λ e p fill i. false≢true (cc (e, is_read y i)), nothing (decode_first s) (decoded s y)),
   λ p. (λ e. subst (Alone s y) e (alone s y), is-alone s y),

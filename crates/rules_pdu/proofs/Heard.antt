@@ -181,9 +181,9 @@ code_there large m =
     rw (length-wire (layout_heard large m))
     (ne_eqb (sizes (layout_heard large m)) 0 (λ e. let z = some_size large m in omega arith))
 
-pub heard-read : HeardRead
+pub heard_read : HeardRead
 unfolding encode_heard framed_in frame_in body_of
-heard-read h m fill f y l =
+heard_read h m fill f y l =
     let b = wire (layout_heard h.large m) in
     let p = pdu-frames h false true b fill f l in
     let o = p.opens in (

@@ -13,13 +13,13 @@ use Rattle.basis.proofs.Pick.{both}
 use Rattle.rules_pdu.specs.Numbers.{good_width, fits, larger, number_after, H, F, C, is_large, segment_length}
 use Rattle.rules_pdu.specs.NumberLaws.{NumbersExactly}
 use Rattle.types.specs.declared.Head.{Head}
-use Rattle.rules_pdu.proofs.Round.{widths-exactly}
+use Rattle.rules_pdu.proofs.Round.{widths_exactly}
 
 fitting-is : (w v : ℕ) → (fits w v ≡ true) ↔ (((w ≡ 1) ⊎ (w ≡ 2) ⊎ (w ≡ 4) ⊎ (w ≡ 8)) × (v < 2 ^ (8 * w)))
 unfolding fits
 fitting-is w v = (
-  λ e. let p = both (good_width w) (ltb v (2 ^ (8 * w))) e in ((widths-exactly w).0 p.0, ltb-true v (2 ^ (8 * w)) p.1),
-  λ p. rw ((widths-exactly w).1 p.0, lt-ltb v (2 ^ (8 * w)) p.1) refl,
+  λ e. let p = both (good_width w) (ltb v (2 ^ (8 * w))) e in ((widths_exactly w).0 p.0, ltb-true v (2 ^ (8 * w)) p.1),
+  λ p. rw ((widths_exactly w).1 p.0, lt-ltb v (2 ^ (8 * w)) p.1) refl,
 )
 
 by-larger : (t : Bool) (a b : ℕ) → ltb a b ≡ t → (a ≤ pick t b a) × (b ≤ pick t b a) × ((pick t b a ≡ a) ⊎ (pick t b a ≡ b))

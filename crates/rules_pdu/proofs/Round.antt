@@ -32,9 +32,9 @@ use Rattle.rules_leaves.proofs.Sums.{crc16-lt}
 
 -- ---- the header
 
-pub widths-exactly : WidthsExactly
+pub widths_exactly : WidthsExactly
 unfolding good_width
-widths-exactly w =
+widths_exactly w =
     let P : Bool → Type 0 = λ (b : Bool). b ≡ true → (w ≡ 1) ⊎ (w ≡ 2) ⊎ (w ≡ 4) ⊎ (w ≡ 8) in (
       cases P (eqb w 1) _ _ (λ e t. inl (eqb-true w 1 e))
           (λ n. cases P (eqb w 2) _ _ (λ e t. inr (inl (eqb-true w 2 e)))
@@ -49,7 +49,7 @@ widths-exactly w =
     good (inr (inr (inr e))) = rw e
 
 pub good-range : (w : ℕ) → good_width w ≡ true → (0 < w) × (w ≤ 8)
-good-range w t = go ((widths-exactly w).0 t)
+good-range w t = go ((widths_exactly w).0 t)
   where
     go : (w ≡ 1) ⊎ (w ≡ 2) ⊎ (w ≡ 4) ⊎ (w ≡ 8) → (0 < w) × (w ≤ 8)
     go (inl e) = omega arith
@@ -426,9 +426,9 @@ same_bytes h g m n f k y z e =
     let p : ◌≡◌ {A = Pdu} (record { head = h; said = m }) (record { head = g; said = n }) = cc (ap decode e) in
     (ap (λ (x : Pdu). x.head) p, ap (λ (x : Pdu). x.said) p)
 
-pub crc-checks : CrcChecks
+pub crc_checks : CrcChecks
 unfolding encode pdu_bytes
-crc-checks h m f e =
+crc_checks h m f e =
     let bs = front h (is_file_data m) false (body_bytes h.large m) in
     let c = ap C e in
     let n : length (bs ++ trailer h.crc bs) - 2 ≡ length bs = rw (length-append bs (trailer h.crc bs), length-trailer h.crc bs) (omega (arith, c)) in

@@ -14,7 +14,7 @@ use Rattle.rules_pdu.specs.PduLaws.{RoutedExactly}
 use Rattle.types.specs.declared.Frame.{Frame}
 use Rattle.types.specs.declared.Body.{Body}
 use Rattle.types.specs.declared.Body.TheVariants.{Malformed, CantProcess, Means}
-use Rattle.rules_pdu.proofs.ExactBody.{given, body-exactly}
+use Rattle.rules_pdu.proofs.ExactBody.{given, body_exactly}
 
 directed-malformed : (t : Bool) (r : Body) → (directed t r ≡ Malformed) ↔ (r ≡ Malformed)
 directed-malformed true r = (λ e. e, λ e. e)
@@ -35,7 +35,7 @@ by_direction f (c ∷ b) e = rw (e, ne_eqb (length (c ∷ b)) 0 (λ z. omega ari
 pub routed_exactly : RoutedExactly
 unfolding body_of
 routed_exactly f b y =
-    let x = body-exactly f.head.large b y in
+    let x = body_exactly f.head.large b y in
     let d = directed-malformed f.tosender (directive_in f.head.large (byte b 0) b) in (
       λ e. rw e,
       λ e. rw (by_direction f b e) (λ m. x.0.0 (d.0 m), λ n. d.1 (x.0.1 n)),

@@ -50,8 +50,8 @@ spare_zero h f = (
   λ c t l k. ack-byte _ h.large c t (body_at h f (ack_finished c t)) l k,
 )
 
-pub written-exactly : WrittenExactly
+pub written_exactly : WrittenExactly
 unfolding written_of
-written-exactly bs out =
+written_exactly bs out =
     let by : Bool → Written = λ b. pick b Short (Wrote (length bs)) in
     (λ l. ap by (lt-ltb (length out) (length bs) l), λ l. ap by (le-ltb (length out) (length bs) l))
