@@ -11,6 +11,7 @@ import re
 import shutil
 import subprocess
 import sys
+import tempfile
 
 HEAD = re.compile(r"(?m)^(?:abbrev |unfoldable )?(?:pub )?([^\s:]+) :")
 PLAIN = re.compile(r"^(search rules|omega arith|search \(rules, omega arith\)|refl)$")
@@ -60,7 +61,8 @@ def paths(text, places):
             text = re.sub(r"\.%s\.keys(\d+)" % re.escape(old), lambda m: ".\0%s.is" % news[int(m[1]) - 1] if int(m[1]) <= len(news) else m[0], text)
     for old, new in sorted(places, key=lambda p: -len(p[0])):
         if old and new:
-            text = re.sub(r"(?<![\w.'\])-])([A-Za-z_]\w*)\.%s(?![\w'-])" % re.escape(old).replace("_", "[_-]").replace(r"\-", "[_-]").replace("-", "[_-]").replace("[_[_-]]", "[_-]"), lambda m: m[0] if m[1] in others else m[1] + ".\0" + new, text)
+            step = "[_-]".join(re.escape(w) for w in re.split("[_-]", old))
+            text = re.sub(r"(?<![\w.'\])-])([A-Za-z_]\w*)\.%s(?![\w'-])" % step, lambda m: m[0] if m[1] in others else m[1] + ".\0" + new, text)
     return text.replace("\0", "")
 
 
@@ -173,17 +175,22 @@ def turn(crate, where, old, name, entry, said):
     said.append("turned: %s, %d invariants, %d answers" % (where, len(inv), len(ans)))
 
 
+def names_of():
+    """The older and today's name of each goal and step of the crate's functions, by the check."""
+    with tempfile.TemporaryDirectory() as room:
+        names = os.path.join(room, "names")
+        r = subprocess.run(["rt", "check", "--generated", names, "--old-names"], capture_output=True, text=True)
+        try:
+            with open(os.path.join(names, "names.json"), encoding="utf-8") as f:
+                return json.load(f)
+        except OSError:
+            sys.exit(r.stdout[-3000:] + r.stderr[-2000:])
+
+
 def main():
     crate, old = sys.argv[1:3]
     os.chdir(os.path.join(os.path.dirname(os.path.abspath(__file__)), "..", "crates", crate))
-    names = "/tmp/names_" + crate
-    shutil.rmtree(names, ignore_errors=True)
-    r = subprocess.run(["rt", "check", "--generated", names, "--old-names"], capture_output=True, text=True)
-    if not os.path.exists(os.path.join(names, "names.json")):
-        print(r.stdout[-3000:], r.stderr[-2000:])
-        sys.exit(1)
-    with open(os.path.join(names, "names.json"), encoding="utf-8") as f:
-        table = json.load(f)
+    table = names_of()
     said = []
     for folder, _, files in sorted(os.walk(old)):
         if "Proof.antt" not in files:

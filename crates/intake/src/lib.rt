@@ -1,4 +1,4 @@
-// The beginning of an input, read into a lent buffer. For the programs that read standard input.
+// The beginning of an input, read into a lent buffer: standard input or a file, for the programs.
 #![tactic(auto)]
 
 ghost use Rattle.std.specs.Prelude.{◌≡◌, ◌<◌, length, take, IfOk};

@@ -1,5 +1,5 @@
 // Arguments and the files that they name.
-ghost use Rattle.std.specs.Prelude.{◌≤◌, length, IfOk};
+ghost use Rattle.std.specs.Prelude.{◌≤◌, length};
 
 use pdu_read::field::part_of;
 use send_text::tell;
@@ -65,21 +65,6 @@ pub enum Loaded {
     TooLarge,
 }
 
-// Reads until buf is full or the file ends, and returns how many bytes it put at the start of buf.
-fn read_full(file: &mut File, buf: &mut [u8]) -> io::Result<usize>
-    ensures { IfOk result (λ n. n ≤ length buf.new) }
-{
-    let mut done = 0;
-    while done < buf.len() {
-        let n = file.read(&mut buf[done..])?;
-        if n == 0 {
-            break;
-        }
-        done += n;
-    }
-    Ok(done)
-}
-
 // Behind the n bytes that were read: a read past the file's end tells the end from a file that holds more.
 fn ended(file: &mut File, n: usize, most: usize) -> Loaded {
     let mut one = [0u8; 1];
@@ -97,7 +82,7 @@ fn ended(file: &mut File, n: usize, most: usize) -> Loaded {
 
 // The whole file in front of buf.
 fn read_whole(file: &mut File, buf: &mut [u8]) -> Loaded {
-    match read_full(file, buf) {
+    match intake::read_full(file, buf) {
         Ok(n) => ended(file, n, buf.len()),
         Err(e) => Loaded::Unreadable(e),
     }
