@@ -1,9 +1,9 @@
 -- Repairs lie below the first pass's mark, and the first pass begins at it: the mark is the handler's progress, and what is owed lies below progress.
 -- Assumes nothing.
+use Rattle.std.specs.Prelude.{Some}
 use mathlib.Core.Path.{◌≡◌, refl, sym, subst, ◌∙◌}
 use mathlib.Core.Bool.{true≢false}
 use mathlib.Core.List.{List, [], ◌∷◌, flat_map}
-use mathlib.Core.Option.{some}
 use Prim.Native.Nat.{ℕ, ◌+◌, ◌≤◌}
 use native.Mathlib.Omega.{arith}
 use lib.ListN.{length}
@@ -43,8 +43,8 @@ abbrev ApartFrom : Transfer → State → List Shown → Type 0
 ApartFrom w s es = Apart s.file.progress (labelled_from w s es)
 
 module _ (w : Transfer) (c : Carries w) (cs : List Single) (ih : (t : State) → Inv w t → BeforeEof (run cs t) → ApartFrom w t (run cs t)) where
-  on-does : (s : State) → Inv w s → (d : Sending) (t : State) → DoesFrom w s d t → BeforeEof (went (some (bytes_of w d)) ∷ run cs t)
-      → ApartFrom w s (went (some (bytes_of w d)) ∷ run cs t)
+  on-does : (s : State) → Inv w s → (d : Sending) (t : State) → DoesFrom w s d t → BeforeEof (went (Some (bytes_of w d)) ∷ run cs t)
+      → ApartFrom w s (went (Some (bytes_of w d)) ∷ run cs t)
   unfolding flat_map
   on-does s i x y (Does.serves-one d t q p z m v j) f =
       rw (labels_repair w s t (run cs t) d (bytes_of w d) q)

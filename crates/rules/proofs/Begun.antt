@@ -1,6 +1,7 @@
 -- What an accepted put gives: each condition of refusals 2 to 8 has passed, so the header fits, L is at least 1, and the state sends the transfer
 -- that the put's arguments say.
 -- Assumes nothing.
+use Rattle.std.specs.Prelude.{Ok}
 use mathlib.Core.Path.{◌≡◌, refl, sym, ◌∙◌}
 use mathlib.Core.Bool.{true, false}
 use mathlib.Core.List.{List}
@@ -30,7 +31,6 @@ use Rattle.types.specs.declared.LocalEntityConfig.{LocalEntityConfig}
 use Rattle.types.specs.declared.PutRequest.{PutRequest}
 use Rattle.types.specs.declared.State.{State}
 use Rattle.types.specs.declared.TransactionStep.TheVariants.{SendingMetadata}
-use Rattle.types.specs.declared.Answer.TheVariants.{Accepted}
 use Rattle.rules_leaves.proofs.Sums.{sum_lt, goes_on}
 use Rattle.rules_pdu.proofs.Round.{size_fits}
 use Rattle.rules.proofs.Pending.{orderly-empty}
@@ -49,7 +49,7 @@ pub record Passed (h : State) (c : LocalEntityConfig) (q : PutRequest) (source d
   pub short : too_long (head_of c (entry_of c q.destination.1) q h.number S) (entry_of c q.destination.1) source destination ≡ false
 
 pub put-passed : (h : State) (c : LocalEntityConfig) (q : PutRequest) (source destination : List ℕ) (S : ℕ)
-    → (put_outcome h c q source destination S).answer ≡ Accepted → Passed h c q source destination S
+    → (put_outcome h c q source destination S).answer ≡ Ok tt → Passed h c q source destination S
 unfolding put_outcome put_answer
 put-passed h c q source destination S a =
     let e = entry_of c q.destination.1 in

@@ -1,5 +1,6 @@
 -- How many steps a burst makes, and that FileChanged refuses none behind its first. That they are the same steps one by one: Singly.antt.
 -- Assumes nothing.
+use Rattle.std.specs.Prelude.{Err, Ok, Result, ⊤}
 use mathlib.Core.Path.{◌≡◌, refl, sym, ap, subst, ◌∙◌}
 use mathlib.Core.Logic.{◌⊎◌, inl, inr}
 use mathlib.Core.Bool.{Bool, true, false}
@@ -11,6 +12,7 @@ use lib.Dec.{eqb, ltb}
 use lib.ListN.{length, length-map}
 use borrow.Author.Tests.{eqb-true, eqb-false}
 use Rattle.basis.specs.Pick.{pick}
+use Rattle.rules.specs.Answers.{Stepped}
 use Rattle.rules.specs.Refusals.{answer_no}
 use Rattle.rules.specs.States.{is_idle, idle}
 use Rattle.rules.specs.Step.{next_length, after_cancel_eof, after_metadata, after_data, after_eof, after_of, eof_owed, due_at, due_of, changed, bytes_due, performed, step_outcome}
@@ -24,10 +26,8 @@ use Rattle.types.specs.declared.TransactionStep.{TransactionStep}
 use Rattle.types.specs.declared.TransactionStep.TheVariants.{Idle}
 use Rattle.types.specs.declared.Due.{Due}
 use Rattle.types.specs.declared.Due.TheVariants.{CancelEof, Repair, Metadata, Data, NoErrorEof, EofAgain, FaultCancel, FaultIgnore, FaultAbandon, Close, Nothing}
-use Rattle.types.specs.declared.Stepped.{Stepped}
 use Rattle.types.specs.declared.Refusal.TheVariants.{BurstTooLong}
-use Rattle.types.specs.declared.Answer.{Answer}
-use Rattle.types.specs.declared.Answer.TheVariants.{Accepted, Refused}
+use Rattle.types.specs.declared.Refusal.{Refusal}
 use Rattle.basis.proofs.Pick.{cases}
 use Rattle.rules.proofs.Outcomes.{differ}
 use Rattle.rules.proofs.Tells.{tells_idle}
@@ -44,10 +44,10 @@ steps-most (suc n) s file expired room =
     let r = step_outcome s file expired room in
     go r.answer r (eqb r.length 0) (steps_of n r.state file false (room - r.length)) (steps-most n r.state file false (room - r.length))
   where
-    go : (a : Answer) (r : Stepped) (quiet : Bool) (rs : List Stepped) → length rs ≤ n → length (if_made a (r ∷ pick quiet [] rs)) ≤ suc n
-    go Accepted r true rs h = omega arith
-    go Accepted r false rs h = omega arith
-    go (Refused k) r quiet rs h = omega arith
+    go : (a : Result ⊤ Refusal) (r : Stepped) (quiet : Bool) (rs : List Stepped) → length rs ≤ n → length (if_made a (r ∷ pick quiet [] rs)) ≤ suc n
+    go (Ok tt) r true rs h = omega arith
+    go (Ok tt) r false rs h = omega arith
+    go (Err k) r quiet rs h = omega arith
 
 pub pos : (n : ℕ) → ¬ (n ≡ 0) → 0 < n
 pos zero h = absurd (h refl)
@@ -65,11 +65,11 @@ steps_speak (suc n) s file expired room =
     let r = step_outcome s file expired room in
     go r.answer r (eqb r.length 0) refl (steps_of n r.state file false (room - r.length)) (steps_speak n r.state file false (room - r.length))
   where
-    go : (a : Answer) (r : Stepped) (quiet : Bool) → eqb r.length 0 ≡ quiet → (rs : List Stepped) → Speaking (map made_of rs)
+    go : (a : Result ⊤ Refusal) (r : Stepped) (quiet : Bool) → eqb r.length 0 ≡ quiet → (rs : List Stepped) → Speaking (map made_of rs)
         → Speaking (map made_of (if_made a (r ∷ pick quiet [] rs)))
-    go Accepted r true e rs h = tt
-    go Accepted r false e rs h = let z = eqb-false r.length 0 e in speak_on (made_of r) (map made_of rs) (pos r.length z) h
-    go (Refused k) r quiet e rs h = tt
+    go (Ok tt) r true e rs h = tt
+    go (Ok tt) r false e rs h = let z = eqb-false r.length 0 e in speak_on (made_of r) (map made_of rs) (pos r.length z) h
+    go (Err k) r quiet e rs h = tt
 
 -- ---- why no more
 
@@ -115,12 +115,12 @@ steps-end (suc n) s file room =
     weaker ms t (inr (inl q)) = inr (inl q)
     weaker ms t (inr (inr x)) = inr (inr x.1)
 
-    go : (a : Answer) → r.answer ≡ a → Ends file (suc n) (map made_of (r ∷ rs)) room (last_of r.state rs)
+    go : (a : Result ⊤ Refusal) → r.answer ≡ a → Ends file (suc n) (map made_of (r ∷ rs)) room (last_of r.state rs)
         → EndsOn file (suc n) (map made_of (if_made a (r ∷ rs))) room (last_of s (if_made a (r ∷ rs)))
-    go Accepted e h = weaker (map made_of (r ∷ rs)) (last_of r.state rs) h
-    go (Refused k) e h = inr (inr (rw (sub-zero room, e) (numbered k)))
+    go (Ok tt) e h = weaker (map made_of (r ∷ rs)) (last_of r.state rs) h
+    go (Err k) e h = inr (inr (rw (sub-zero room, e) (numbered k)))
 
-first_ends : (n : ℕ) (s : State) (file : List ℕ) (expired : Bool) (room : ℕ) → (step_outcome s file expired room).answer ≡ Accepted
+first_ends : (n : ℕ) (s : State) (file : List ℕ) (expired : Bool) (room : ℕ) → (step_outcome s file expired room).answer ≡ Ok tt
     → let rs = steps_of (suc n) s file expired room in Ends file (suc n) (map made_of rs) room (last_of s rs)
 unfolding steps_of
 first_ends n s file expired room a =
@@ -128,26 +128,26 @@ first_ends n s file expired room a =
     go r (pick (eqb r.length 0) [] (steps_of n r.state file false (room - r.length))) r.answer a
     (made_ends file n r room (eqb r.length 0) (steps_of n r.state file false (room - r.length)) refl (steps-end n r.state file (room - r.length)))
   where
-    go : (r : Stepped) (rs : List Stepped) (a : Answer) → a ≡ Accepted → Ends file (suc n) (map made_of (r ∷ rs)) room (last_of r.state rs)
+    go : (r : Stepped) (rs : List Stepped) (a : Result ⊤ Refusal) → a ≡ Ok tt → Ends file (suc n) (map made_of (r ∷ rs)) room (last_of r.state rs)
         → Ends file (suc n) (map made_of (if_made a (r ∷ rs))) room (last_of s (if_made a (r ∷ rs)))
-    go r rs Accepted e h = h
-    go r rs (Refused k) e h = differ cc
+    go r rs (Ok tt) e h = h
+    go r rs (Err k) e h = differ cc
 
 -- ---- the promise
 
 -- a count that is taken
-counted : (s : State) (file : List ℕ) (expired : Bool) (count room : ℕ) → (burst_outcome s file expired count room).answer ≡ Accepted
-    → (allowed count ≡ count) × (¬ (count ≡ 0) → (step_outcome s file expired room).answer ≡ Accepted)
+counted : (s : State) (file : List ℕ) (expired : Bool) (count room : ℕ) → (burst_outcome s file expired count room).answer ≡ Ok tt
+    → (allowed count ≡ count) × (¬ (count ≡ 0) → (step_outcome s file expired room).answer ≡ Ok tt)
 unfolding burst_outcome burst_answer allowed
 counted s file expired count room = go (ltb 16 count) (eqb count 0) refl
   where
-    go : (b c : Bool) → eqb count 0 ≡ c → pick b (Refused BurstTooLong) (pick c Accepted (step_outcome s file expired room).answer) ≡ Accepted
-        → (pick b 0 count ≡ count) × (¬ (count ≡ 0) → (step_outcome s file expired room).answer ≡ Accepted)
+    go : (b c : Bool) → eqb count 0 ≡ c → pick b (Err BurstTooLong) (pick c (Ok tt) (step_outcome s file expired room).answer) ≡ Ok tt
+        → (pick b 0 count ≡ count) × (¬ (count ≡ 0) → (step_outcome s file expired room).answer ≡ Ok tt)
     go true c e h = differ cc
     go false true e h = (refl, λ n. absurd (n (eqb-true count 0 e)))
     go false false e h = (refl, λ n. h)
 
-burst-ends : (s : State) (file : List ℕ) (expired : Bool) (count room : ℕ) → (¬ (count ≡ 0) → (step_outcome s file expired room).answer ≡ Accepted)
+burst-ends : (s : State) (file : List ℕ) (expired : Bool) (count room : ℕ) → (¬ (count ≡ 0) → (step_outcome s file expired room).answer ≡ Ok tt)
     → let rs = steps_of count s file expired room in Ends file count (map made_of rs) room (last_of s rs)
 unfolding steps_of
 burst-ends s file expired zero room a = inl refl

@@ -1,6 +1,7 @@
 -- Deliver's refusals exactly when document 01 says so. A body is sorted first: no PDU by the layouts, one that can't be processed, or one with a
 -- meaning, each with the line's condition; each of the other tests tells its line's condition.
 -- Assumes nothing.
+use Rattle.std.specs.Prelude.{Err, Ok, Result}
 use mathlib.Core.Path.{◌≡◌, refl, sym, ◌∙◌}
 use mathlib.Core.Logic.{◌⊎◌, inl, inr, ⊎_elim}
 use mathlib.Core.Bool.{Bool, true, false, true≢false, false≢true}
@@ -22,8 +23,8 @@ use Rattle.rules.specs.Deliver.{said_in, asked, requests_in, same_transaction, u
 use Rattle.rules.specs.Exactly.{NoFrame, Reserved, BadFinished, BadAck, BadNak, Unread, BadBody, CantBody, Unexpected, Differs, OneInvalid, deliver_rules, DeliverExactly}
 use Rattle.types.specs.declared.Head.{Head}
 use Rattle.types.specs.declared.Frame.{Frame}
-use Rattle.types.specs.declared.Body.{Body}
-use Rattle.types.specs.declared.Body.TheVariants.{Malformed, CantProcess, Means}
+use Rattle.types.specs.declared.ReadError.{ReadError}
+use Rattle.types.specs.declared.ReadError.TheVariants.{Malformed, CantProcess}
 use Rattle.types.specs.declared.Meaning.{Meaning}
 use Rattle.types.specs.declared.Meaning.TheVariants.{Finished, AckOfEof, Nak, KeepAlive}
 use Rattle.types.specs.declared.SegmentRequest.{SegmentRequest}
@@ -72,30 +73,30 @@ reads_last {b = false} t = isbad (t.yes refl)
 tells_reserved : (c : ℕ) → Tells (reserved c) (Reserved c)
 tells_reserved c = iff_tells (reserved_exactly c)
 
-nak_reads : (large : Bool) (b : List ℕ) → Reads Malformed (Means (Nak (request_count large (length b)))) (BadNak large b) (nak_in large b)
+nak_reads : (large : Bool) (b : List ℕ) → Reads (Err Malformed) (Ok (Nak (request_count large (length b)))) (BadNak large b) (nak_in large b)
 unfolding nak_in
 nak_reads large b = reads_t (tells_ltb _ _) (reads_last (fails_not (tells_eqb _ _)))
 
-keep_reads : (large : Bool) (b : List ℕ) → Reads Malformed (Means (KeepAlive (num_at b 1 (F large)))) (¬ (length b ≡ 1 + F large)) (keep_alive_in large b)
+keep_reads : (large : Bool) (b : List ℕ) → Reads (Err Malformed) (Ok (KeepAlive (num_at b 1 (F large)))) (¬ (length b ≡ 1 + F large)) (keep_alive_in large b)
 unfolding keep_alive_in
 keep_reads large b = reads_last (fails_not (tells_eqb _ _))
 
 -- an ACK is of EOF or of Finished
-acked : (x : ℕ) → Reads Malformed (pick (eqb x 0x40) (Means AckOfEof) CantProcess) (¬ ((x ≡ 0x40) ⊎ (x ≡ 0x51)))
-    (pick (eqb x 0x40) (Means AckOfEof) (pick (eqb x 0x51) CantProcess Malformed))
+acked : (x : ℕ) → Reads (Err Malformed) (pick (eqb x 0x40) (Ok AckOfEof) (Err CantProcess)) (¬ ((x ≡ 0x40) ⊎ (x ≡ 0x51)))
+    (pick (eqb x 0x40) (Ok AckOfEof) (pick (eqb x 0x51) (Err CantProcess) (Err Malformed)))
 acked x = go (eqb x 0x40) (tells_eqb x 0x40) (eqb x 0x51) (tells_eqb x 0x51)
   where
     go : (b : Bool) → Tells b (x ≡ 0x40) → (c : Bool) → Tells c (x ≡ 0x51)
-        → Reads Malformed (pick b (Means AckOfEof) CantProcess) (¬ ((x ≡ 0x40) ⊎ (x ≡ 0x51))) (pick b (Means AckOfEof) (pick c CantProcess Malformed))
+        → Reads (Err Malformed) (pick b (Ok AckOfEof) (Err CantProcess)) (¬ ((x ≡ 0x40) ⊎ (x ≡ 0x51))) (pick b (Ok AckOfEof) (pick c (Err CantProcess) (Err Malformed)))
     go true t c u = isgood (λ n. n (inl (t.yes refl)))
     go false t true u = isgood (λ n. n (inr (u.yes refl)))
     go false t false u = isbad (⊎_elim (t.no refl) (u.no refl))
 
-ack_reads : (b : List ℕ) → Reads Malformed (pick (eqb (byte b 1) 0x40) (Means AckOfEof) CantProcess) (BadAck b) (ack_in b)
+ack_reads : (b : List ℕ) → Reads (Err Malformed) (pick (eqb (byte b 1) 0x40) (Ok AckOfEof) (Err CantProcess)) (BadAck b) (ack_in b)
 unfolding ack_in
 ack_reads b = reads_f (fails_not (tells_eqb _ _)) (reads_t (tells_reserved _) (acked (byte b 1)))
 
-finished_reads : (b : List ℕ) → Reads Malformed (Means (Finished (finished_params (byte b 1)))) (BadFinished b) (finished_in b)
+finished_reads : (b : List ℕ) → Reads (Err Malformed) (Ok (Finished (finished_params (byte b 1)))) (BadFinished b) (finished_in b)
 unfolding finished_in
 finished_reads b = reads_t (tells_ltb _ _) (reads_t (tells_reserved _) (reads_last (fails_not (iff_tells (tlvs_exactly (drop 2 b))))))
 
@@ -116,12 +117,12 @@ Kind large b (KeepAlive p) = byte b 0 ≡ 12
 abbrev Cant : List ℕ → Type 0
 Cant b = Unread (byte b 0) ⊎ ((byte b 0 ≡ 6) × (byte b 1 ≡ 0x51))
 
-data Directive (large : Bool) (b : List ℕ) : Body → Type 0 where
-  bad : BadBody large b → Directive large b Malformed
-  cant : ¬ BadBody large b → Cant b → Directive large b CantProcess
-  means : (m : Meaning) → ¬ BadBody large b → ¬ Cant b → Kind large b m → Directive large b (Means m)
+data Directive (large : Bool) (b : List ℕ) : Result Meaning ReadError → Type 0 where
+  bad : BadBody large b → Directive large b (Err Malformed)
+  cant : ¬ BadBody large b → Cant b → Directive large b (Err CantProcess)
+  means : (m : Meaning) → ¬ BadBody large b → ¬ Cant b → Kind large b m → Directive large b (Ok m)
 
-by_reads : {large : Bool} {b : List ℕ} {good v : Body} {P : Type 0} → Reads Malformed good P v → (P → BadBody large b) → (¬ P → Directive large b good) → Directive large b v
+by_reads : {large : Bool} {b : List ℕ} {good v : Result Meaning ReadError} {P : Type 0} → Reads (Err Malformed) good P v → (P → BadBody large b) → (¬ P → Directive large b good) → Directive large b v
 by_reads (isbad p) f g = bad (f p)
 by_reads (isgood p) f g = g p
 
@@ -137,7 +138,7 @@ module _ (large : Bool) (b : List ℕ) (h : ¬ (length b ≡ 0)) where
   not-unread : (k : ℕ) → byte b 0 ≡ k → (¬ (k ≡ 4)) × (¬ (k ≡ 7)) × (¬ (k ≡ 9)) → ¬ Unread (byte b 0)
   not-unread k e n = ⊎_elim (λ x. n.0 (sym e ∙ x)) (⊎_elim (λ x. n.1 (sym e ∙ x)) (λ x. n.2 (sym e ∙ x)))
 
-  unread : Unread (byte b 0) → Directive large b CantProcess
+  unread : Unread (byte b 0) → Directive large b (Err CantProcess)
   unread u =
       cant (not-bad large b h (inl u) (λ e. absurd (not-unread 5 e (omega arith) u)) (λ e. absurd (not-unread 6 e (omega arith) u))
       (λ e. absurd (not-unread 8 e (omega arith) u)) (λ e. absurd (not-unread 12 e (omega arith) u))) (inl u)
@@ -165,7 +166,7 @@ module _ (large : Bool) (b : List ℕ) (h : ¬ (length b ≡ 0)) where
       by_reads (ack_reads b) (λ p. inr (inr (inr (inl (e, p)))))
       (λ p.
       let good = not-bad large b h (inr (inr (inl e))) (λ f. absurd (omega arith)) (λ _. p) (λ f. absurd (omega arith)) (λ f. absurd (omega arith)) in
-      cases (Directive large b) (eqb (byte b 1) 0x40) (Means AckOfEof) CantProcess
+      cases (Directive large b) (eqb (byte b 1) 0x40) (Ok AckOfEof) (Err CantProcess)
       (λ t. means _ good (⊎_elim (not-unread 6 e (omega arith)) (λ x. absurd (omega (arith, eqb-true (byte b 1) 0x40 t, x.1)))) e)
       (λ t. cant good (inr (e, of-finished (byte b 1) t (λ n. p (inr (inr n)))))))
 
@@ -185,12 +186,12 @@ module _ (large : Bool) (b : List ℕ) (h : ¬ (length b ≡ 0)) where
       (⊎_elim (isn't 5 n₅) (⊎_elim (isn't 6 n₆) (⊎_elim (isn't 8 n₈) (isn't 12 n))))))))))))))
 
 -- a body in its frame
-data Sorted (filedata tosender large : Bool) (b : List ℕ) : Body → Type 0 where
-  bad : (filedata ≡ false) × BadBody large b → Sorted filedata tosender large b Malformed
-  cant : ¬ ((filedata ≡ false) × BadBody large b) → CantBody filedata tosender b → Sorted filedata tosender large b CantProcess
-  means : (m : Meaning) → ¬ ((filedata ≡ false) × BadBody large b) → ¬ CantBody filedata tosender b → Kind large b m → Sorted filedata tosender large b (Means m)
+data Sorted (filedata tosender large : Bool) (b : List ℕ) : Result Meaning ReadError → Type 0 where
+  bad : (filedata ≡ false) × BadBody large b → Sorted filedata tosender large b (Err Malformed)
+  cant : ¬ ((filedata ≡ false) × BadBody large b) → CantBody filedata tosender b → Sorted filedata tosender large b (Err CantProcess)
+  means : (m : Meaning) → ¬ ((filedata ≡ false) × BadBody large b) → ¬ CantBody filedata tosender b → Kind large b m → Sorted filedata tosender large b (Ok m)
 
-directed-sorted : (tosender large : Bool) (b : List ℕ) (v : Body) → Directive large b v → Sorted false tosender large b (directed tosender v)
+directed-sorted : (tosender large : Bool) (b : List ℕ) (v : Result Meaning ReadError) → Directive large b v → Sorted false tosender large b (directed tosender v)
 directed-sorted true large b _ (Directive.bad p) = bad (refl, p)
 directed-sorted true large b _ (Directive.cant p q) = cant (λ x. p x.1) (inr (⊎_elim inl (λ x. inr (inl x)) q))
 directed-sorted true large b _ (Directive.means m p q k) =
@@ -205,7 +206,7 @@ sorted f b = go f.filedata
   where
     go : (filedata : Bool)
         → Sorted filedata f.tosender f.head.large b
-        (pick filedata CantProcess (pick (eqb (length b) 0) Malformed (directed f.tosender (directive_in f.head.large (byte b 0) b))))
+        (pick filedata (Err CantProcess) (pick (eqb (length b) 0) (Err Malformed) (directed f.tosender (directive_in f.head.large (byte b 0) b))))
     go true = cant (λ x. true≢false x.0) (inl refl)
     go false =
         cases (Sorted false f.tosender f.head.large b) (eqb (length b) 0) _ _ (λ e. bad (refl, inl (eqb-true (length b) 0 e)))
@@ -283,7 +284,7 @@ deliver_exactly s bytes =
     b : List ℕ
     b = body_in bytes
 
-    said-first : ¬ NoFrame bytes → (v : Body) → Sorted (file_data_in bytes) (to_sender_in bytes) (large_in bytes) b v
+    said-first : ¬ NoFrame bytes → (v : Result Meaning ReadError) → Sorted (file_data_in bytes) (to_sender_in bytes) (large_in bytes) b v
         → First (deliver_rules s bytes) (answer_no (deliver_answer s bytes v))
     said-first n _ (bad p) = here 20 _ _ (inr p)
     said-first n _ (cant p q) = there 20 _ _ _ (⊎_elim n p) (here 21 _ _ q)
@@ -296,6 +297,6 @@ deliver_exactly s bytes =
         (λ _. line RetransmitFull _ _ _ _ (of-nak bytes f (large_in bytes) b (λ rs. ltb (free s.queue) (owing rs)) (λ rs. 64 - s.queue.count < owing rs) (tells_full s) (λ z. omega arith) m k)
         (λ _. passes))))))
 
-    go : (t : Bool) → Fails t (NoFrame bytes) → First (deliver_rules s bytes) (answer_no (deliver_answer s bytes (pick t (body_of f b) Malformed)))
+    go : (t : Bool) → Fails t (NoFrame bytes) → First (deliver_rules s bytes) (answer_no (deliver_answer s bytes (pick t (body_of f b) (Err Malformed))))
     go true t = said-first (t.no refl) _ (sorted f b)
     go false t = here 20 _ _ (inl (t.yes refl))

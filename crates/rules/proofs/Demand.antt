@@ -1,10 +1,10 @@
 -- The third demand. Over a run before the EOF, what was emitted and what is still planned or owed make up what was planned and owed (`Kept`);
 -- the number of the EOF's step is a length of this.
 -- Assumes nothing.
+use Rattle.std.specs.Prelude.{Option, Some}
 use mathlib.Core.Path.{◌≡◌, refl, sym, ap, ◌∙◌}
 use mathlib.Core.Bool.{false, true≢false}
 use mathlib.Core.List.{List, [], ◌∷◌, ◌++◌, map, flat_map, map-append, append-nil, append_assoc, append_cancel_right, cons≢nil}
-use mathlib.Core.Option.{Option, some}
 use Prim.Native.Nat.{ℕ, suc, ◌+◌, ◌-◌, ◌<◌}
 use native.Mathlib.Nat.{sub-zero}
 use native.Mathlib.Omega.{arith}
@@ -49,11 +49,11 @@ module _ (w : Transfer) (s t : State) (es : List Shown) where
       let ln = length-answers w.segment (requests bytes) in
       ap (λ (n : ℕ). labelled w.segment n es) (omega arith)
 
-  pub labels_first : (pdu : List ℕ) → owed_by w s ≡ [] → owed_by w t ≡ [] → labelled_from w s (went (some pdu) ∷ es) ≡ first pdu ∷ labelled_from w t es
+  pub labels_first : (pdu : List ℕ) → owed_by w s ≡ [] → owed_by w t ≡ [] → labelled_from w s (went (Some pdu) ∷ es) ≡ first pdu ∷ labelled_from w t es
   unfolding labelled weights
   labels_first pdu a b = rw (a, b) (ap (λ (n : ℕ). first pdu ∷ labelled w.segment n es) (omega arith))
 
-  pub labels_repair : (d : Sending) (pdu : List ℕ) → owed_by w s ≡ d ∷ owed_by w t → labelled_from w s (went (some pdu) ∷ es) ≡ repair pdu ∷ labelled_from w t es
+  pub labels_repair : (d : Sending) (pdu : List ℕ) → owed_by w s ≡ d ∷ owed_by w t → labelled_from w s (went (Some pdu) ∷ es) ≡ repair pdu ∷ labelled_from w t es
   unfolding labelled weights
   labels_repair d pdu q =
       rw (q, lt-ltb 0 (suc (length (owed_by w t))) (omega arith)) (ap (λ (n : ℕ). repair pdu ∷ labelled w.segment n es) (omega arith))
@@ -75,8 +75,8 @@ module _ (w : Transfer) (g : Fit w.head) (cs : List Single) (ih : (t : State) �
   on-does :
       (s : State) (d : Sending) (t : State)
       → DoesFrom w s d t
-      → BeforeEof (went (some (bytes_of w d)) ∷ run cs t)
-      → Kept w s (went (some (bytes_of w d)) ∷ run cs t) (end cs t)
+      → BeforeEof (went (Some (bytes_of w d)) ∷ run cs t)
+      → Kept w s (went (Some (bytes_of w d)) ∷ run cs t) (end cs t)
   unfolding flat_map
   on-does s x y (Does.serves-one d t q p z m v j) f =
       let k = ih t j (f.0.1, f.1.1) in
@@ -287,17 +287,17 @@ module _ (w : Transfer) (c : Carries w) (s : State) (i : Inv w s) (a : s.step �
         answered = rw rep (all_read w c (repairs_owed w.segment es) k.within);
       }
 
-  on-emitted : (d : Sending) (u : State) → DoesFrom w t d u → AtStep w es (some (bytes_of w d))
+  on-emitted : (d : Sending) (u : State) → DoesFrom w t d u → AtStep w es (Some (bytes_of w d))
   on-emitted x y (Does.serves-one d u q p z m n j) =
       let lq = ap length q in
       let lp = plan-pos w t k.inv in
       let tot = total in
-      not_yet (some (bytes_of w d)) (small-no-eof w c.fit d z) (omega arith)
+      not_yet (Some (bytes_of w d)) (small-no-eof w c.fit d z) (omega arith)
   on-emitted x y (Does.advances d u q v p z m j) =
       let ll = ap length p in
       let lp = plan-pos w u j in
       let tot = total in
-      not_yet (some (bytes_of w d)) (small-no-eof w c.fit d z) (omega arith)
+      not_yet (Some (bytes_of w d)) (small-no-eof w c.fit d z) (omega arith)
   on-emitted x y (Does.closes u q p) =
       let ll = ap length p in
       let lq = ap length (none-owed w t q) in
@@ -310,7 +310,7 @@ module _ (w : Transfer) (c : Carries w) (s : State) (i : Inv w s) (a : s.step �
   on-next : (e : Shown) (u : State) (d : Option (List ℕ)) → Moves w t e u → e ≡ went d → AtStep w es d
   on-next x y d Moves.refuses e = differ cc
   on-next x y d (Moves.takes m u q p v n j) e = differ cc
-  on-next x y d (Moves.emits b u z) e = let g : some (bytes_of w b) ≡ d = cc in rw g at (on-emitted b u z)
+  on-next x y d (Moves.emits b u z) e = let g : Some (bytes_of w b) ≡ d = cc in rw g at (on-emitted b u z)
   on-next x y d (Moves.ends u) e = differ cc
 
 -- ---- the demand

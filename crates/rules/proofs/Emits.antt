@@ -1,10 +1,10 @@
 -- The bytes of a transfer's PDUs, a state that sends them, and what the host sees of a step of such a state: nothing, or the bytes of the PDU due
 -- in front of the out buffer. By the tests of refusals 30 and 31.
 -- Assumes nothing.
+use Rattle.std.specs.Prelude.{Ok, Option, None, Some}
 use mathlib.Core.Path.{◌≡◌, refl, sym, ap, ◌∙◌}
 use mathlib.Core.Bool.{Bool, true, false, true≢false}
 use mathlib.Core.List.{List, []}
-use mathlib.Core.Option.{Option, none, some}
 use Prim.Native.Nat.{ℕ, zero, suc, ◌≤◌, ◌<◌}
 use native.Mathlib.Omega.{arith}
 use lib.Dec.{eqb, ltb}
@@ -25,14 +25,13 @@ use Rattle.types.specs.declared.State.{State}
 use Rattle.types.specs.declared.Sending.{Sending}
 use Rattle.types.specs.declared.Sending.TheVariants.{Nothing as NoPdu, Metadata as MetadataPdu, FileData, Eof as EofPdu, AckFinished}
 use Rattle.types.specs.declared.Refusal.TheVariants.{FileChanged, OutTooSmall}
-use Rattle.types.specs.declared.Answer.TheVariants.{Accepted}
 use Rattle.rules_pdu.proofs.Round.{length-encode}
 
 -- ---- the bytes of a transfer's PDUs, and a state that sends them
 
 abbrev pub encoded : Head → Option Said → List ℕ
-encoded h none = []
-encoded h (some m) = encode h m
+encoded h None = []
+encoded h (Some m) = encode h m
 
 abbrev pub bytes_of : Transfer → Sending → List ℕ
 bytes_of w d = encoded w.head (said_of w d)
@@ -67,9 +66,9 @@ lent_length s n b e = go (is_idle s.step) (eqb n s.fixed.size) b refl e
     go false false x y e = absurd (true≢false e)
 
 -- a PDU in front of the out buffer is taken from there
-pdu_in_lem : (bs out : List ℕ) (n : ℕ) → length bs ≡ n → 0 < n → n ≤ length out → pdu_in n (in_front bs out) ≡ some bs
+pdu_in_lem : (bs out : List ℕ) (n : ℕ) → length bs ≡ n → 0 < n → n ≤ length out → pdu_in n (in_front bs out) ≡ Some bs
 pdu_in_lem bs out zero e p h = absurd (omega arith)
-pdu_in_lem bs out (suc n) e p h = ap some (ap (λ (k : ℕ). take k (in_front bs out)) (sym e) ∙ taken bs out (rw e h))
+pdu_in_lem bs out (suc n) e p h = ap Some (ap (λ (k : ℕ). take k (in_front bs out)) (sym e) ∙ taken bs out (rw e h))
 
 pub encode-pos : (h : Head) (m : Said) → 0 < length (encode h m)
 unfolding pdu_length
@@ -78,7 +77,7 @@ encode-pos h m = rw (length-encode h m) (omega arith)
 -- what a step with the PDU x due and the state t behind it shows, and the state after it
 pub data StepShows (w : Transfer) (s : State) (x : Sending) (t : State) : Shown → State → Type 0 where
   refuses : StepShows w s x t turned s
-  passes : (d : Option (List ℕ)) → (0 < length (bytes_of w x) → d ≡ some (bytes_of w x)) → StepShows w s x t (went d) t
+  passes : (d : Option (List ℕ)) → (0 < length (bytes_of w x) → d ≡ Some (bytes_of w x)) → StepShows w s x t (went d) t
 
 module _ (w : Transfer) (s : State) (z : Sends s.fixed s.names w) where
   -- the lent file is the transfer's
@@ -104,10 +103,10 @@ module _ (w : Transfer) (s : State) (z : Sends s.fixed s.names w) where
 
       go :
           (b : Bool) → ltb (length out) (length bs) ≡ b
-          → let r = pick b (refused_step s OutTooSmall) (record { answer = Accepted; length = length bs; events = events_of s (due_of s expired); state = t }) in
+          → let r = pick b (refused_step s OutTooSmall) (record { answer = (Ok tt); length = length bs; events = events_of s (due_of s expired); state = t }) in
           StepShows w s x t (unless r.answer (went (pdu_in r.length (in_front bs out)))) r.state
       go true e = refuses
-      go false e = passes (pdu_in (length bs) (in_front bs out)) (λ p. pdu_in_lem bs out (length bs) refl (rw same p) (ltb-false (length out) (length bs) e) ∙ ap some same)
+      go false e = passes (pdu_in (length bs) (in_front bs out)) (λ p. pdu_in_lem bs out (length bs) refl (rw same p) (ltb-false (length out) (length bs) e) ∙ ap Some same)
 
   pub step-shows :
       is_idle s.step ≡ false

@@ -1,5 +1,6 @@
 -- The events of each case, by the flags and the mode that it reads.
 -- Assumes nothing.
+use Rattle.std.specs.Prelude.{None, Some}
 use mathlib.Core.Path.{◌≡◌, refl, ap}
 use mathlib.Core.Bool.{Bool, true, false}
 use mathlib.Core.List.{List, []}
@@ -7,11 +8,10 @@ use Rattle.basis.specs.Pick.{pick}
 use Rattle.rules.specs.Step.{finished_if, ack_timer, eof_timer, eof_finished}
 use Rattle.rules.specs.Events.{Told, finished, if_set, if_finished, listed, whose, plainly, sent, EventCases}
 use Rattle.types.specs.declared.TransactionId.{TransactionId}
-use Rattle.types.specs.declared.FinishedEvent.TheVariants.{NotFinished, Finished}
 use Rattle.types.specs.declared.FinishedParams.{FinishedParams}
 
 -- a finished event by the flag
-by_flag : (b : Bool) (id : TransactionId) (p : FinishedParams) → if_finished id (pick b (Finished p) NotFinished) [] ≡ if_set b (finished id p) []
+by_flag : (b : Bool) (id : TransactionId) (p : FinishedParams) → if_finished id (pick b (Some p) None) [] ≡ if_set b (finished id p) []
 by_flag true id p = refl
 by_flag false id p = refl
 

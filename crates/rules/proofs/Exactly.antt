@@ -1,5 +1,6 @@
 -- A step's refusals and a cancel's no, exactly when document 01 says so; a refusal changes nothing.
 -- Assumes nothing.
+use Rattle.std.specs.Prelude.{Err, Ok, Result, ⊤}
 use mathlib.Core.Path.{◌≡◌, refl}
 use mathlib.Core.Logic.{◌↔◌, ◌⊎◌, inl, inr, ⊎_elim}
 use mathlib.Core.Bool.{Bool, true, false, true≢false}
@@ -12,6 +13,7 @@ use borrow.Author.Tests.{ne_eqb}
 use Rattle.basis.specs.Pick.{pick, ◌and◌, not}
 use Rattle.basis.specs.Laid.{in_front}
 use Rattle.basis.proofs.Pick.{cases}
+use Rattle.rules.specs.Answers.{Done, Stepped, Cancelled}
 use Rattle.rules.specs.Refusals.{refusal_no, answer_no, by_answer}
 use Rattle.rules.specs.States.{step_no}
 use Rattle.rules.specs.Queues.{is_metadata, owes, owing}
@@ -29,11 +31,6 @@ use Rattle.types.specs.declared.TransactionStep.{TransactionStep}
 use Rattle.types.specs.declared.TransactionStep.TheVariants.{Idle, SendingMetadata, SendingFileData, SendingEof, WaitingForEofAck, WaitingForFinished, Closing}
 use Rattle.types.specs.declared.Refusal.{Refusal}
 use Rattle.types.specs.declared.Refusal.TheVariants.{AlreadyBusy, BadIdWidth, NoRemoteCfgFound, BadConfig, BadNameLength, SourceFileNotValidUtf8, DestFileNotValidUtf8, PacketLimit, Malformed, CantProcessPacketType, UnexpectedPdu, OtherTransaction, InvalidNakPdu, RetransmitFull, FileChanged, OutTooSmall, BurstTooLong}
-use Rattle.types.specs.declared.Answer.{Answer}
-use Rattle.types.specs.declared.Answer.TheVariants.{Accepted, Refused}
-use Rattle.types.specs.declared.Done.{Done}
-use Rattle.types.specs.declared.Stepped.{Stepped}
-use Rattle.types.specs.declared.Cancelled.{Cancelled}
 use Rattle.rules.proofs.Tells.{Tells, Fails, tests, tells_ltb, tells_map, fails_map, fails_either, fails_yes, tells_iff, fails_iff, tells_step, tells_idle}
 use Rattle.rules.proofs.Order.{First, hits, there, passes, exactly}
 
@@ -54,7 +51,7 @@ step_exactly s file expired room =
 
 -- the first step's lines, where there is one
 first_lines : (n : ℕ) (s : State) (file : List ℕ) (expired : Bool) (room : ℕ)
-    → First (drop 1 (burst_rules s file expired n room)) (answer_no (pick (eqb n 0) Accepted (step_outcome s file expired room).answer))
+    → First (drop 1 (burst_rules s file expired n room)) (answer_no (pick (eqb n 0) (Ok tt) (step_outcome s file expired room).answer))
 unfolding step_outcome performed
 first_lines zero s file expired room = there 30 _ _ 0 (λ h. omega (arith, h.0)) (there 31 _ _ 0 (λ h. omega (arith, h.0)) passes)
 first_lines (suc n) s file expired room =
@@ -146,9 +143,9 @@ numbered BurstTooLong e = omega (arith, e)
 abbrev Keeps : State → Done → Type 0
 Keeps s d = ¬ (answer_no d.answer ≡ 0) → d.state ≡ s
 
-answer_keeps : (s t : State) (a : Answer) → Keeps s (by_answer s t a)
-answer_keeps s t Accepted n = absurd (n refl)
-answer_keeps s t (Refused r) n = refl
+answer_keeps : (s t : State) (a : Result ⊤ Refusal) → Keeps s (by_answer s t a)
+answer_keeps s t (Ok tt) n = absurd (n refl)
+answer_keeps s t (Err r) n = refl
 
 -- what a step's answer and buffer say together
 abbrev pub StepKeeps : State → List ℕ → Stepped → List ℕ → Type 0
@@ -164,7 +161,7 @@ step_keeps s file expired out = go (changed s (length file)) (ltb (length out) (
         (pick b (refused_step s FileChanged)
         (pick c (refused_step s OutTooSmall)
         (record {
-          answer = Accepted;
+          answer = (Ok tt);
           length = length (bytes_due s file expired);
           events = events_of s (due_of s expired);
           state = after_of s file (due_of s expired);
@@ -181,9 +178,9 @@ unfolding steps_of
 none_made_lem zero s file expired room h = refl
 none_made_lem (suc n) s file expired room h = go (step_outcome s file expired room).answer _ h
   where
-    go : (a : Answer) (rs : List Stepped) → ¬ (answer_no a ≡ 0) → if_made a rs ≡ []
-    go Accepted rs h = absurd (h refl)
-    go (Refused r) rs h = refl
+    go : (a : Result ⊤ Refusal) (rs : List Stepped) → ¬ (answer_no a ≡ 0) → if_made a rs ≡ []
+    go (Ok tt) rs h = absurd (h refl)
+    go (Err r) rs h = refl
 
 pub none-laid : (n : ℕ) (s : State) (file : List ℕ) (expired : Bool) (out : List ℕ) → ¬ (answer_no (step_outcome s file expired (length out)).answer ≡ 0)
     → laid_of n s file expired out ≡ out
@@ -203,7 +200,7 @@ burst-refused s file expired count out = go (ltb 16 count) (eqb count 0) refl
     go : (b c : Bool) → eqb count 0 ≡ c
         → let n = pick b 0 count in
         let rs = steps_of n s file expired (length out) in
-        ¬ (answer_no (pick b (Refused BurstTooLong) (pick c Accepted (step_outcome s file expired (length out)).answer)) ≡ 0)
+        ¬ (answer_no (pick b (Err BurstTooLong) (pick c (Ok tt) (step_outcome s file expired (length out)).answer)) ≡ 0)
         → (last_of s rs ≡ s)
         × (length rs ≡ 0)
         × (map made_of rs ++ replicate (16 - length (map made_of rs)) none_made ≡ replicate 16 none_made)

@@ -1,9 +1,9 @@
 -- Expiries while an EOF waits for its ACK: what is due by the tests in front of item 6, one step, then by the number of steps.
 -- Assumes nothing.
+use Rattle.std.specs.Prelude.{Ok, Some}
 use mathlib.Core.Path.{◌≡◌, refl, sym, ap, ◌∙◌}
 use mathlib.Core.Bool.{Bool, true, false}
 use mathlib.Core.List.{List, ◌∷◌}
-use mathlib.Core.Option.{some}
 use Prim.Native.Nat.{ℕ, zero, suc, ◌+◌, ◌-◌, ◌≤◌, ◌<◌}
 use native.Mathlib.Omega.{arith}
 use lib.ListN.{length, take, replicate}
@@ -11,15 +11,14 @@ use borrow.Author.Tests.{le-leb, lt-leb, le-ltb, eq-eqb}
 use Rattle.basis.specs.Pick.{pick}
 use Rattle.basis.specs.Laid.{in_front}
 use Rattle.basis.proofs.Laid.{taken}
+use Rattle.rules.specs.Answers.{Stepped}
 use Rattle.rules.specs.Step.{action_for, fault_due, ack_expired, check_expired, due_at, eof_owed, due_of, events_of, changed, performed, step_outcome, step_bytes}
 use Rattle.rules.specs.Runs.{step, Shown, went, after, pdu_in, shows, trace, behind}
 use Rattle.rules.specs.Expiry.{Waits, ExpiryDue, kept_pdu, recounted, repeats_left, expiries, ExpiryCounted, with_limit, Limit0ActsAs1}
 use Rattle.types.specs.declared.State.{State}
-use Rattle.types.specs.declared.Stepped.{Stepped}
 use Rattle.types.specs.declared.TransactionStep.{TransactionStep}
 use Rattle.types.specs.declared.TransactionStep.TheVariants.{Idle, SendingMetadata, SendingFileData, SendingEof, WaitingForEofAck, WaitingForFinished, Closing}
 use Rattle.types.specs.declared.Due.TheVariants.{EofAgain}
-use Rattle.types.specs.declared.Answer.TheVariants.{Accepted}
 use Rattle.rules.proofs.Emits.{encode-pos}
 
 -- ---- what is due
@@ -44,10 +43,10 @@ expiry_due =
 -- ---- one step
 
 -- a PDU in front of the out buffer, that the host takes from there
-front : (bs out : List ℕ) → 0 < length bs → length bs ≤ length out → pdu_in (length bs) (in_front bs out) ≡ some bs
+front : (bs out : List ℕ) → 0 < length bs → length bs ≤ length out → pdu_in (length bs) (in_front bs out) ≡ Some bs
 front bs out p l =
     let e : length bs ≡ suc (length bs - 1) = omega arith in
-    ap (λ (n : ℕ). pdu_in n (in_front bs out)) e ∙ ap some (ap (λ (n : ℕ). take n (in_front bs out)) (sym e) ∙ taken bs out l)
+    ap (λ (n : ℕ). pdu_in n (in_front bs out)) e ∙ ap Some (ap (λ (n : ℕ). take n (in_front bs out)) (sym e) ∙ taken bs out l)
 
 module _ (file out : List ℕ) where
   -- it waits, the file is lent and there is room
@@ -61,7 +60,7 @@ module _ (file out : List ℕ) where
   again-made : (s : State) → Ready s → s.marks.count + 1 < s.fixed.limit
       → (step_bytes s file true out ≡ in_front (kept_pdu s) out)
       × (step_outcome s file true (length out)
-      ≡ record { answer = Accepted; length = length (kept_pdu s); events = events_of s EofAgain; state = recounted s (s.marks.count + 1) })
+      ≡ record { answer = (Ok tt); length = length (kept_pdu s); events = events_of s EofAgain; state = recounted s (s.marks.count + 1) })
   unfolding step_outcome performed step_bytes
   again-made s g c =
       let d = expiry_due.again s g.0 c in
@@ -69,7 +68,7 @@ module _ (file out : List ℕ) where
       (rw (unchanged s g, d) refl, rw (unchanged s g, d, b) refl)
 
   again-shown : (s : State) → Ready s → s.marks.count + 1 < s.fixed.limit
-      → (shows (step file true out) s ≡ went (some (kept_pdu s))) × (after (step file true out) s ≡ recounted s (s.marks.count + 1))
+      → (shows (step file true out) s ≡ went (Some (kept_pdu s))) × (after (step file true out) s ≡ recounted s (s.marks.count + 1))
   again-shown s g c =
       let m = again-made s g c in
       (rw (m.1, m.0) (ap went (front (kept_pdu s) out (encode-pos s.fixed.head _) g.2)), ap (λ (r : Stepped). r.state) m.1)
@@ -77,13 +76,13 @@ module _ (file out : List ℕ) where
   -- ---- k steps
 
   run : (k : ℕ) (s : State) → Ready s → k ≤ repeats_left s
-      → (trace (expiries k file out) s ≡ replicate k (went (some (kept_pdu s)))) × (behind (expiries k file out) s ≡ recounted s (s.marks.count + k))
+      → (trace (expiries k file out) s ≡ replicate k (went (Some (kept_pdu s)))) × (behind (expiries k file out) s ≡ recounted s (s.marks.count + k))
   unfolding trace behind
   run zero s g h = (refl, ap (λ (n : ℕ). recounted s n) (omega arith))
   run (suc k) s g h =
       let e = again-shown s g (omega arith) in
       let r = run k (recounted s (s.marks.count + 1)) g (omega arith) in (
-        rw (e.0, e.1) (ap (λ (es : List Shown). went (some (kept_pdu s)) ∷ es) r.0),
+        rw (e.0, e.1) (ap (λ (es : List Shown). went (Some (kept_pdu s)) ∷ es) r.0),
         ap (λ (t : State). behind (expiries k file out) t) e.1 ∙ r.1 ∙ ap (λ (n : ℕ). recounted s n) (omega arith),
       )
 

@@ -1,6 +1,7 @@
 -- What a delivery reports, and that it reads no byte behind the PDU: bytes cut where the PDU ends are delivered alike (crate `rules_pdu`, proofs/Own.antt), a NAK's
 -- pairs with them.
 -- Assumes nothing.
+use Rattle.std.specs.Prelude.{Err, Ok, Result, ⊤}
 use mathlib.Core.Path.{◌≡◌, refl, sym, ap, ◌∙◌}
 use mathlib.Core.Bool.{Bool, true, false, true≢false}
 use mathlib.Core.List.{List, [], ◌∷◌, ◌++◌}
@@ -18,37 +19,38 @@ use Rattle.rules_pdu.specs.Reading.{length_in, id_width_in, seq_width_in, head_i
 use Rattle.rules_pdu.proofs.Own.{requests-cut, own, own-framed, own-head, own-frame, own_body, ends-alike}
 use Rattle.rules_pdu.proofs.ExactFrame.{tests, empty}
 use Rattle.rules_pdu.proofs.ExactSaid.{byte_small}
+use Rattle.rules.specs.Answers.{Delivered}
 use Rattle.rules.specs.Refusals.{answer_no}
 use Rattle.rules.specs.Deliver.{said_in, is_malformed, cant_process, meaning_of, requests_in, asked, same_transaction, unexpected, deliver_answer, deliver_state, deliver_length, deliver_outcome}
 use Rattle.rules.specs.Runs.{requests}
 use Rattle.rules.specs.Fill.{own_length, LengthExactly, LengthsExactly, OnePdu, FillUnread, NextPdu}
 use Rattle.types.specs.declared.Frame.{Frame}
-use Rattle.types.specs.declared.Body.{Body}
-use Rattle.types.specs.declared.Body.TheVariants.{Malformed, CantProcess, Means}
+use Rattle.types.specs.declared.Meaning.{Meaning}
+use Rattle.types.specs.declared.ReadError.{ReadError}
+use Rattle.types.specs.declared.ReadError.TheVariants.{Malformed, CantProcess}
 use Rattle.types.specs.declared.Meaning.TheVariants.{Finished, AckOfEof, Nak, KeepAlive}
 use Rattle.types.specs.declared.State.{State}
-use Rattle.types.specs.declared.Answer.{Answer}
-use Rattle.types.specs.declared.Delivered.{Delivered}
+use Rattle.types.specs.declared.Refusal.{Refusal}
 use Rattle.rules.specs.States.{is_idle}
 use Rattle.rules.specs.Queues.{any_invalid, owing, free}
 use Rattle.rules.proofs.Outcomes.{answer-by, asked-same}
 
 -- ---- a NAK's pairs stand in its body
 
-abbrev Fits : Bool → List ℕ → Body → Type 0
-Fits large b Malformed = Unit {0}
-Fits large b CantProcess = Unit {0}
-Fits large b (Means (Finished p)) = Unit {0}
-Fits large b (Means AckOfEof) = Unit {0}
-Fits large b (Means (Nak k)) = 1 + 2 * F large + k * (F large + F large) ≤ length b
-Fits large b (Means (KeepAlive p)) = Unit {0}
+abbrev Fits : Bool → List ℕ → Result Meaning ReadError → Type 0
+Fits large b (Err Malformed) = Unit {0}
+Fits large b (Err CantProcess) = Unit {0}
+Fits large b (Ok (Finished p)) = Unit {0}
+Fits large b (Ok AckOfEof) = Unit {0}
+Fits large b (Ok (Nak k)) = 1 + 2 * F large + k * (F large + F large) ≤ length b
+Fits large b (Ok (KeepAlive p)) = Unit {0}
 
 nak-fits : (large : Bool) (b : List ℕ) → Fits large b (nak_in large b)
 unfolding nak_in request_count
 nak-fits large b =
     let P = Fits large b in
     cases P (ltb (length b) (1 + 2 * F large)) _ _ (λ e. tt)
-    (λ e. cases P (eqb ((length b - (1 + 2 * F large)) % (2 * F large)) 0) _ Malformed (λ q. counted large (ltb-false (length b) (1 + 2 * F large) e)) (λ q. tt))
+    (λ e. cases P (eqb ((length b - (1 + 2 * F large)) % (2 * F large)) 0) _ (Err Malformed) (λ q. counted large (ltb-false (length b) (1 + 2 * F large) e)) (λ q. tt))
   where
     counted : (large : Bool) → 1 + 2 * F large ≤ length b → 1 + 2 * F large + (length b - (1 + 2 * F large)) / (2 * F large) * (F large + F large) ≤ length b
     counted true l = omega arith
@@ -85,11 +87,11 @@ directive-fits large code b =
     (λ e. cases P (eqb code 9) _ _ (λ e. tt)
     (λ e. cases P (eqb code 12) _ _ (λ e. keep-fits large b) (λ e. tt)))))))
 
-directed-fits : (large : Bool) (b : List ℕ) (tosender : Bool) (v : Body) → Fits large b v → Fits large b (directed tosender v)
+directed-fits : (large : Bool) (b : List ℕ) (tosender : Bool) (v : Result Meaning ReadError) → Fits large b v → Fits large b (directed tosender v)
 directed-fits large b true v f = f
-directed-fits large b false Malformed f = tt
-directed-fits large b false CantProcess f = tt
-directed-fits large b false (Means m) f = tt
+directed-fits large b false (Err Malformed) f = tt
+directed-fits large b false (Err CantProcess) f = tt
+directed-fits large b false (Ok m) f = tt
 
 body-fits : (f : Frame) (b : List ℕ) → Fits f.head.large b (body_of f b)
 unfolding body_of
@@ -101,14 +103,14 @@ body-fits f b =
 -- ---- so they are read alike where the bytes are cut behind it
 
 module _ (s : List ℕ) (n : ℕ) (f : Frame) (b : List ℕ) (l : f.start + length b ≤ n) where
-  asked-cut : (v : Body) → Fits f.head.large b v → asked (take n s) f (meaning_of v) ≡ asked s f (meaning_of v)
+  asked-cut : (v : Result Meaning ReadError) → Fits f.head.large b v → asked (take n s) f (meaning_of v) ≡ asked s f (meaning_of v)
   unfolding requests_in
-  asked-cut Malformed x = refl
-  asked-cut CantProcess x = refl
-  asked-cut (Means (Finished p)) x = refl
-  asked-cut (Means AckOfEof) x = refl
-  asked-cut (Means (Nak k)) x = requests-cut k f.head.large s n (f.start + 1 + F f.head.large + F f.head.large) (omega (arith, x, l))
-  asked-cut (Means (KeepAlive p)) x = refl
+  asked-cut (Err Malformed) x = refl
+  asked-cut (Err CantProcess) x = refl
+  asked-cut (Ok (Finished p)) x = refl
+  asked-cut (Ok AckOfEof) x = refl
+  asked-cut (Ok (Nak k)) x = requests-cut k f.head.large s n (f.start + 1 + F f.head.large + F f.head.large) (omega (arith, x, l))
+  asked-cut (Ok (KeepAlive p)) x = refl
 
 -- ---- bytes cut where the PDU ends
 
@@ -119,7 +121,7 @@ body-within a = let e = length-take (body_end a - h_in a) (drop (h_in a) a) in o
 
 said_fits : (a : List ℕ) → Fits (frame_in a).head.large (body_in a) (said_in a)
 unfolding said_in
-said_fits a = cases (Fits (frame_in a).head.large (body_in a)) (well_framed a) _ Malformed (λ e. body-fits (frame_in a) (body_in a)) (λ e. tt)
+said_fits a = cases (Fits (frame_in a).head.large (body_in a)) (well_framed a) _ (Err Malformed) (λ e. body-fits (frame_in a) (body_in a)) (λ e. tt)
 
 module _ (a : List ℕ) (whole : end_in a ≤ length a) where
   said-cut : said_in (own a whole) ≡ said_in a
@@ -182,14 +184,14 @@ module _ (s : State) (bytes : List ℕ) where
   reported = refl
 
   -- 20 is the first line's alone
-  first-line : (said : Body) → is_malformed said ≡ true → answer_no (deliver_answer s bytes said) ≡ 20
+  first-line : (said : Result Meaning ReadError) → is_malformed said ≡ true → answer_no (deliver_answer s bytes said) ≡ 20
   unfolding deliver_answer
   first-line said e = rw e
 
-  other-line : (said : Body) → is_malformed said ≡ false → ¬ (answer_no (deliver_answer s bytes said) ≡ 20)
+  other-line : (said : Result Meaning ReadError) → is_malformed said ≡ false → ¬ (answer_no (deliver_answer s bytes said) ≡ 20)
   unfolding deliver_answer
   other-line said e =
-      let P : Answer → Type 0 = λ (x : Answer). ¬ (answer_no x ≡ 20) in
+      let P : Result ⊤ Refusal → Type 0 = λ (x : Result ⊤ Refusal). ¬ (answer_no x ≡ 20) in
       rw e
       (cases P (cant_process said) _ _ (λ c q. omega (arith, q))
       (λ c. cases P (not (is_idle s.step) and not (same_transaction s.fixed.head (head_in bytes))) _ _ (λ c q. omega (arith, q))
@@ -202,7 +204,7 @@ module _ (s : State) (bytes : List ℕ) where
   unfolding said_in
   came e = go (well_framed bytes) refl e
     where
-      go : (b : Bool) → well_framed bytes ≡ b → is_malformed (pick b (body_of (frame_in bytes) (body_in bytes)) Malformed) ≡ false → (own_length bytes ≡ end_in bytes) × (end_in bytes ≤ length bytes)
+      go : (b : Bool) → well_framed bytes ≡ b → is_malformed (pick b (body_of (frame_in bytes) (body_in bytes)) (Err Malformed)) ≡ false → (own_length bytes ≡ end_in bytes) × (end_in bytes ≤ length bytes)
       go true w e = let t = tests bytes w in (own_is bytes t.long, t.whole)
       go false w e = absurd (true≢false e)
 

@@ -1,5 +1,6 @@
 -- Every call keeps the state good: for each way through a call, the facts that its tests give.
 -- Assumes nothing.
+use Rattle.std.specs.Prelude.{Err, Ok, Result, ⊤}
 use mathlib.Core.Path.{◌≡◌, refl, sym, ap, subst, ◌∙◌}
 use mathlib.Core.Logic.{◌⊎◌, inl, inr}
 use mathlib.Core.Bool.{Bool, true, false, true≢false, false≢true}
@@ -13,6 +14,7 @@ use Rattle.basis.specs.Pick.{◌and◌, not}
 use Rattle.basis.specs.Bytes.{Bytes}
 use Rattle.basis.proofs.Pick.{both, cases}
 use Rattle.basis.proofs.Bytes.{bytes_take, bytes_drop}
+use Rattle.rules.specs.Answers.{Stepped, Cancelled}
 use Rattle.rules.specs.States.{to_step, with_queue, with_marks, counted, empty_queue, idle, step_no}
 use Rattle.rules.specs.Queues.{served}
 use Rattle.rules.specs.Step.{action_for, fault_due, ack_expired, check_expired, due_at, eof_owed, due_of, next_length, sum_behind, awaiting, after_cancel_eof, after_metadata, onward, after_data, after_eof, fault_marked, after_of, changed, bytes_due, performed, step_outcome}
@@ -30,10 +32,7 @@ use Rattle.types.specs.declared.TransactionStep.{TransactionStep}
 use Rattle.types.specs.declared.TransactionStep.TheVariants.{Idle, SendingMetadata, SendingFileData, SendingEof, WaitingForEofAck, WaitingForFinished, Closing}
 use Rattle.types.specs.declared.Due.{Due}
 use Rattle.types.specs.declared.Due.TheVariants.{CancelEof, Repair, EofAgain, FaultCancel, FaultIgnore, FaultAbandon, Nothing}
-use Rattle.types.specs.declared.Answer.{Answer}
-use Rattle.types.specs.declared.Answer.TheVariants.{Accepted, Refused}
-use Rattle.types.specs.declared.Stepped.{Stepped}
-use Rattle.types.specs.declared.Cancelled.{Cancelled}
+use Rattle.types.specs.declared.Refusal.{Refusal}
 use Rattle.rules_leaves.proofs.Sums.{sum_on-lt}
 use Rattle.rules.proofs.Singly.{burst-keeps}
 use Rattle.rules.proofs.GoodQueue.{good-empty, good-on, served-good}
@@ -305,9 +304,9 @@ cancel-good s source number g =
 
 -- ---- put
 
-kept-or-good : (s t : State) (a : Answer) → Good s → (a ≡ Accepted → Good t) → Good (by_answer s t a).state
-kept-or-good s t Accepted g h = h refl
-kept-or-good s t (Refused r) g h = g
+kept-or-good : (s t : State) (a : Result ⊤ Refusal) → Good s → (a ≡ Ok tt → Good t) → Good (by_answer s t a).state
+kept-or-good s t (Ok tt) g h = h refl
+kept-or-good s t (Err r) g h = g
 
 -- ---- every call
 

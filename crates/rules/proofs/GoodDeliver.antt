@@ -1,5 +1,6 @@
 -- A delivery keeps the state good, by the kind of PDU and the step's row of the table.
 -- Assumes nothing.
+use Rattle.std.specs.Prelude.{Err, Ok, Result, ⊤}
 use mathlib.Core.Path.{◌≡◌, refl, sym, subst, ◌∙◌}
 use mathlib.Core.Logic.{⊎_elim}
 use mathlib.Core.Bool.{Bool, true, false, true≢false}
@@ -22,8 +23,8 @@ use Rattle.types.specs.declared.SegmentRequest.{SegmentRequest}
 use Rattle.types.specs.declared.FinishedParams.{FinishedParams}
 use Rattle.types.specs.declared.Queue.{Queue}
 use Rattle.types.specs.declared.Frame.{Frame}
-use Rattle.types.specs.declared.Body.{Body}
-use Rattle.types.specs.declared.Body.TheVariants.{Malformed, CantProcess, Means}
+use Rattle.types.specs.declared.ReadError.{ReadError}
+use Rattle.types.specs.declared.ReadError.TheVariants.{Malformed, CantProcess}
 use Rattle.types.specs.declared.Meaning.{Meaning}
 use Rattle.types.specs.declared.Meaning.TheVariants.{Finished, AckOfEof, Nak, KeepAlive}
 use Rattle.types.specs.declared.Verdict.{Verdict}
@@ -31,8 +32,7 @@ use Rattle.types.specs.declared.Verdict.TheVariants.{Enqueue, Move, Refuse, NoEf
 use Rattle.types.specs.declared.State.{State}
 use Rattle.types.specs.declared.TransactionStep.{TransactionStep}
 use Rattle.types.specs.declared.TransactionStep.TheVariants.{Idle, SendingMetadata, SendingFileData, SendingEof, WaitingForEofAck, WaitingForFinished, Closing}
-use Rattle.types.specs.declared.Answer.{Answer}
-use Rattle.types.specs.declared.Answer.TheVariants.{Accepted, Refused}
+use Rattle.types.specs.declared.Refusal.{Refusal}
 use Rattle.rules.proofs.Tells.{tells_step}
 use Rattle.rules.proofs.Outcomes.{Taken, taken}
 use Rattle.rules.proofs.Table.{verdict_nak, verdict_ack, verdict_finished, verdict_keep}
@@ -54,10 +54,10 @@ Small AckOfEof = Unit {0}
 Small (Nak n) = Unit {0}
 Small (KeepAlive p) = Unit {0}
 
-abbrev SmallBody : Body → Type 0
-SmallBody Malformed = Unit {0}
-SmallBody CantProcess = Unit {0}
-SmallBody (Means m) = Small m
+abbrev SmallBody : Result Meaning ReadError → Type 0
+SmallBody (Err Malformed) = Unit {0}
+SmallBody (Err CantProcess) = Unit {0}
+SmallBody (Ok m) = Small m
 
 module _ (b : List ℕ) (h : Bytes b) where
   finished-small : SmallBody (finished_in b)
@@ -96,11 +96,11 @@ module _ (b : List ℕ) (h : Bytes b) where
       (λ _. cases SmallBody (eqb code 9) _ _ (λ _. tt)
       (λ _. cases SmallBody (eqb code 12) _ _ (λ _. keep-small large) (λ _. tt)))))))
 
-directed-small : (t : Bool) (v : Body) → SmallBody v → SmallBody (directed t v)
+directed-small : (t : Bool) (v : Result Meaning ReadError) → SmallBody v → SmallBody (directed t v)
 directed-small true v h = h
-directed-small false Malformed h = tt
-directed-small false CantProcess h = tt
-directed-small false (Means m) h = tt
+directed-small false (Err Malformed) h = tt
+directed-small false (Err CantProcess) h = tt
+directed-small false (Ok m) h = tt
 
 body-small : (f : Frame) (b : List ℕ) → Bytes b → SmallBody (body_of f b)
 unfolding body_of
@@ -115,10 +115,10 @@ said-small bytes h =
     cases SmallBody (well_framed bytes) _ _
     (λ _. body-small (frame_in bytes) (body_in bytes) (bytes_take (body_end bytes - h_in bytes) (drop (h_in bytes) bytes) (bytes_drop (h_in bytes) bytes h))) (λ _. tt)
 
-meaning_small : (v : Body) → SmallBody v → Small (meaning_of v)
-meaning_small Malformed h = tt
-meaning_small CantProcess h = tt
-meaning_small (Means m) h = h
+meaning_small : (v : Result Meaning ReadError) → SmallBody v → Small (meaning_of v)
+meaning_small (Err Malformed) h = tt
+meaning_small (Err CantProcess) h = tt
+meaning_small (Ok m) h = h
 
 -- ---- by the verdict
 
@@ -197,6 +197,6 @@ module _ (s : State) (g : Good s) where
   unfolding deliver_outcome deliver_state
   deliver-good bytes h = go (deliver_answer s bytes (said_in bytes)) refl
     where
-      go : (x : Answer) → deliver_answer s bytes (said_in bytes) ≡ x → Good (by_answer s (deliver_state s bytes (said_in bytes)) x).state
-      go Accepted e = verdict_good bytes (frame_in bytes) (meaning_of (said_in bytes)) (meaning_small (said_in bytes) (said-small bytes h)) (taken s bytes (said_in bytes) e)
-      go (Refused r) e = g
+      go : (x : Result ⊤ Refusal) → deliver_answer s bytes (said_in bytes) ≡ x → Good (by_answer s (deliver_state s bytes (said_in bytes)) x).state
+      go (Ok tt) e = verdict_good bytes (frame_in bytes) (meaning_of (said_in bytes)) (meaning_small (said_in bytes) (said-small bytes h)) (taken s bytes (said_in bytes) e)
+      go (Err r) e = g

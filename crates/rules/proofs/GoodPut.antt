@@ -1,5 +1,6 @@
 -- An accepted put makes a good state: every fact follows from a test that it passed.
 -- Assumes nothing.
+use Rattle.std.specs.Prelude.{Ok}
 use mathlib.Core.Path.{◌≡◌, refl}
 use mathlib.Core.Bool.{Bool, true, false}
 use mathlib.Core.List.{List, ◌++◌}
@@ -22,7 +23,6 @@ use Rattle.types.specs.declared.RemoteEntityConfig.{RemoteEntityConfig}
 use Rattle.types.specs.declared.LocalEntityConfig.{LocalEntityConfig}
 use Rattle.types.specs.declared.PutRequest.{PutRequest}
 use Rattle.types.specs.declared.State.{State}
-use Rattle.types.specs.declared.Answer.TheVariants.{Accepted}
 use Rattle.rules.proofs.Outcomes.{passed, passed-not}
 use Rattle.rules.proofs.Begun.{head-fit, entry-good, name_lengths, packet-holds, segment-range, name_kept}
 use Rattle.rules.proofs.PutExactly.{tells_type, fails_actions}
@@ -92,7 +92,7 @@ meta_room h e closure type n source destination a b l p i j =
 -- ---- all
 
 pub put-good : (s : State) (c : LocalEntityConfig) (q : PutRequest) (source destination : List ℕ) (S : ℕ) → S < 2 ^ 64
-    → put_answer s c q source destination S ≡ Accepted → Good (put_state s c q source destination S)
+    → put_answer s c q source destination S ≡ Ok tt → Good (put_state s c q source destination S)
 unfolding put_answer put_state started
 put-good s c q source destination S S64 e₀ =
     let e = entry_of c q.destination.1 in

@@ -1,5 +1,6 @@
 -- What an accepted delivery leaves: the table's verdict on a PDU that was not refused is one, or two for a Finished.
 -- Assumes nothing.
+use Rattle.std.specs.Prelude.{Err, Ok, Result, ⊤}
 use mathlib.Core.Path.{◌≡◌, refl, ◌∙◌}
 use mathlib.Core.Bool.{false, true≢false}
 use mathlib.Core.List.{List}
@@ -12,11 +13,9 @@ use Rattle.rules.specs.Leaves.{ReadAs, DeliverLeaves}
 use Rattle.types.specs.declared.FinishedParams.{FinishedParams}
 use Rattle.types.specs.declared.Meaning.{Meaning}
 use Rattle.types.specs.declared.Meaning.TheVariants.{Finished, AckOfEof, Nak, KeepAlive}
-use Rattle.types.specs.declared.Body.{Body}
-use Rattle.types.specs.declared.Body.TheVariants.{Means}
+use Rattle.types.specs.declared.ReadError.{ReadError}
 use Rattle.types.specs.declared.Verdict.TheVariants.{Enqueue, Move, NoEffect}
-use Rattle.types.specs.declared.Answer.{Answer}
-use Rattle.types.specs.declared.Answer.TheVariants.{Accepted, Refused}
+use Rattle.types.specs.declared.Refusal.{Refusal}
 use Rattle.types.specs.declared.State.{State}
 use Rattle.types.specs.declared.TransactionStep.{TransactionStep}
 use Rattle.types.specs.declared.TransactionStep.TheVariants.{Idle, SendingMetadata, SendingFileData, SendingEof, WaitingForEofAck, WaitingForFinished, Closing}
@@ -77,17 +76,17 @@ record Heeded (s : State) (bytes : List ℕ) (m : Meaning) : Type 0 where
   left : (deliver_outcome s bytes).state ≡ by_verdict s (asked bytes (frame_in bytes) m) m (verdict_of s.step m)
   asks : asked bytes (frame_in bytes) m ≡ requests bytes
 
-heeded : (s : State) (bytes : List ℕ) (m : Meaning) → (deliver_outcome s bytes).answer ≡ Accepted → ReadAs bytes m → Heeded s bytes m
+heeded : (s : State) (bytes : List ℕ) (m : Meaning) → (deliver_outcome s bytes).answer ≡ Ok tt → ReadAs bytes m → Heeded s bytes m
 unfolding deliver_outcome deliver_state said_in
 heeded s bytes m a h = go (said_in bytes) refl (rw h.0 h.1)
   where
-    by : (x : Answer) → (by_answer s (deliver_state s bytes (said_in bytes)) x).answer ≡ Accepted → (x ≡ Accepted)
-    by Accepted e = refl
-    by (Refused r) e = absurd (refused≢accepted r e)
+    by : (x : Result ⊤ Refusal) → (by_answer s (deliver_state s bytes (said_in bytes)) x).answer ≡ Ok tt → (x ≡ Ok tt)
+    by (Ok tt) e = refl
+    by (Err r) e = absurd (refused≢accepted r e)
 
-    go : (v : Body) → said_in bytes ≡ v → v ≡ Means m → Heeded s bytes m
+    go : (v : Result Meaning ReadError) → said_in bytes ≡ v → v ≡ Ok m → Heeded s bytes m
     go v e f =
-        let z : said_in bytes ≡ Means m = e ∙ f in
+        let z : said_in bytes ≡ Ok m = e ∙ f in
         let x = by (deliver_answer s bytes (said_in bytes)) a in
         record { passed = rw z at (taken s bytes (said_in bytes) x); left = rw x (rw z refl); asks = rw z at (asked-same bytes) }
 

@@ -2,10 +2,10 @@
 -- The idea: `plan` is the list of PDUs still to be sent besides repairs, `answers` of the pending list is the list still owed; an unrefused step takes
 -- the head of one of the two, an accepted NAK appends to the second, and nothing else changes them.
 -- Assumes nothing.
+use Rattle.std.specs.Prelude.{Some}
 use mathlib.Core.Path.{◌≡◌, refl, sym, ap₂, ◌∙◌}
 use mathlib.Core.Bool.{Bool, true, false, true≢false}
 use mathlib.Core.List.{List, [], ◌∷◌, ◌++◌, append-nil, cons≢nil}
-use mathlib.Core.Option.{some}
 use Prim.Native.Nat.{ℕ, ◌+◌, ◌-◌, ◌≤◌, ◌<◌, min}
 use native.Mathlib.Omega.{arith}
 use lib.Dec.{eqb, ltb}
@@ -14,6 +14,7 @@ use lib.Seq.{take-length}
 use borrow.Author.Tests.{eqb-true, eqb-false, ltb-true, ltb-false}
 use Rattle.basis.specs.Pick.{pick}
 use Rattle.rules_leaves.specs.Checksum.{sum_of}
+use Rattle.rules.specs.Answers.{Done}
 use Rattle.rules.specs.Refusals.{refused, accepted}
 use Rattle.rules.specs.States.{is_idle, to_step, with_queue}
 use Rattle.rules.specs.Queues.{pending, push_all, oldest, pop, piece, served, is_metadata}
@@ -36,7 +37,6 @@ use Rattle.types.specs.declared.Due.TheVariants.{CancelEof, Repair}
 use Rattle.types.specs.declared.Sending.{Sending}
 use Rattle.types.specs.declared.Sending.TheVariants.{Nothing as NoPdu, Metadata as MetadataPdu, FileData, Eof as EofPdu, AckFinished}
 use Rattle.types.specs.declared.Refusal.{Refusal}
-use Rattle.types.specs.declared.Done.{Done}
 use Rattle.rules.proofs.Tiles.{tiles-zero, tiles-step, tiles-one, Within, within_more}
 use Rattle.rules.proofs.Pending.{pending-none, pending-first, Orderly, orderly-more, due-within, served-answers, orderly-served}
 use Rattle.rules.proofs.Outcomes.{put-by, cancel-by, delivered-by, nak-adds, Taken, outcome}
@@ -150,7 +150,7 @@ pub data Moves (w : Transfer) (s : State) : Shown → State → Type 0 where
       → t.file.progress ≡ s.file.progress
       → Inv w t
       → Moves w s (took bytes) t
-  emits : (d : Sending) (t : State) → DoesFrom w s d t → Moves w s (went (some (bytes_of w d))) t
+  emits : (d : Sending) (t : State) → DoesFrom w s d t → Moves w s (went (Some (bytes_of w d))) t
   ends : (t : State) → Moves w s ended t
 
 -- ---- steps

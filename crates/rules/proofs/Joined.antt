@@ -1,9 +1,9 @@
 -- The bytes that an observer joins by offsets are those of the PDUs that are not owed to a NAK: from `told_apart`, entry by entry.
 -- Assumes nothing.
+use Rattle.std.specs.Prelude.{Option, None, Some}
 use mathlib.Core.Path.{◌≡◌, refl, sym, ap, subst, ◌∙◌}
 use mathlib.Core.Bool.{Bool, true, false}
 use mathlib.Core.List.{List, [], ◌∷◌, ◌++◌, flat_map, append-nil, append_assoc}
-use mathlib.Core.Option.{Option, none, some}
 use Prim.Native.Nat.{ℕ, ◌+◌, ◌-◌}
 use native.Mathlib.Omega.{arith}
 use lib.Dec.{ltb}
@@ -28,26 +28,26 @@ record Joins (bs : List ℕ) (pdus : List (List ℕ)) (all : List ℕ) : Type 0 
 
 -- a repair adds nothing
 below : (bs : List ℕ) (x : Option (ℕ × List ℕ)) → LiesBelow (length bs) x → joined bs x ≡ bs
-below bs none l = refl
-below bs (some d) l = rw (ne_eqb d.0 (length bs) (λ e. let z = l.0 in omega arith)) refl
+below bs None l = refl
+below bs (Some d) l = rw (ne_eqb d.0 (length bs) (λ e. let z = l.0 in omega arith)) refl
 
 -- a PDU of the first pass has no file data, or the next bytes
 next : (bs pdu : List ℕ) (pdus : List (List ℕ)) (all : List ℕ) (x : Option (ℕ × List ℕ)) → file_data_of pdu ≡ x → BeginsAt (length bs) x → Joins (joined bs x) pdus all
     → Joins bs (pdu ∷ pdus) all
-next bs pdu pdus all none e b j = record { rest = j.rest; behind_it = j.behind_it; tiled = Tiled.other (length bs) pdu pdus j.rest e j.tiled }
-next bs pdu pdus all (some d) e b j =
+next bs pdu pdus all None e b j = record { rest = j.rest; behind_it = j.behind_it; tiled = Tiled.other (length bs) pdu pdus j.rest e j.tiled }
+next bs pdu pdus all (Some d) e b j =
     let k : Joins (bs ++ d.1) pdus all = subst (λ (v : List ℕ). Joins v pdus all) (rw (eq-eqb d.0 (length bs) b) refl) j in
     record {
       rest = d.1 ++ k.rest;
       behind_it = k.behind_it ∙ append_assoc bs d.1 k.rest;
       tiled =
-          Tiled.piece (length bs) pdu pdus d.1 k.rest (e ∙ ap (λ (o : ℕ). some (o, d.1)) b)
+          Tiled.piece (length bs) pdu pdus d.1 k.rest (e ∙ ap (λ (o : ℕ). Some (o, d.1)) b)
           (subst (λ (n : ℕ). Tiled n pdus k.rest) (length-append bs d.1) k.tiled);
     }
 
 joined_length : (bs : List ℕ) (x : Option (ℕ × List ℕ)) → BeginsAt (length bs) x → length bs + data_length x ≡ length (joined bs x)
-joined_length bs none b = omega arith
-joined_length bs (some d) b = rw (eq-eqb d.0 (length bs) b) (sym (length-append bs d.1))
+joined_length bs None b = omega arith
+joined_length bs (Some d) b = rw (eq-eqb d.0 (length bs) b) (sym (length-append bs d.1))
 
 module _ (L : ℕ) where
   abbrev tiles_of : List Labelled → List (List ℕ)
@@ -59,11 +59,11 @@ module _ (L : ℕ) where
   joins (turned ∷ es) k bs n a = joins es _ bs n.1 a
   joins (began ∷ es) k bs n a = absurd (n.0 refl)
   joins (took bytes ∷ es) k bs n a = joins es _ bs n.1 a
-  joins (went none ∷ es) k bs n a = joins es _ bs n.1 a
-  joins (went (some pdu) ∷ es) k bs n a = go (ltb 0 k) (λ cs. joins es (k + weights L (asks (went (some pdu))) - flag (is_step (went (some pdu)))) cs n.1) a
+  joins (went None ∷ es) k bs n a = joins es _ bs n.1 a
+  joins (went (Some pdu) ∷ es) k bs n a = go (ltb 0 k) (λ cs. joins es (k + weights L (asks (went (Some pdu))) - flag (is_step (went (Some pdu)))) cs n.1) a
     where
       j : ℕ
-      j = k + weights L (asks (went (some pdu))) - flag (is_step (went (some pdu)))
+      j = k + weights L (asks (went (Some pdu))) - flag (is_step (went (Some pdu)))
 
       x : Option (ℕ × List ℕ)
       x = file_data_of pdu

@@ -1,10 +1,10 @@
 -- The state that a call leaves, by the tests that its definition makes.
 -- Assumes nothing.
+use Rattle.std.specs.Prelude.{Some}
 use mathlib.Core.Path.{◌≡◌, refl, sym, subst, ◌∙◌}
 use mathlib.Core.Bool.{Bool, true, false, false≢true}
 use mathlib.Core.Logic.{inl, inr}
 use mathlib.Core.List.{List}
-use mathlib.Core.Option.{some}
 use Prim.Native.Nat.{ℕ, ◌+◌, ◌-◌, ◌<◌}
 use native.Mathlib.Omega.{arith}
 use borrow.Author.Tests.{eqb-true, eqb-false, le-leb, lt-leb}
@@ -12,6 +12,7 @@ use lib.Dec.{eqb}
 use Rattle.basis.specs.Pick.{pick}
 use Rattle.rules_pdu.specs.Layout.{eof}
 use Rattle.basis.proofs.Pick.{cases}
+use Rattle.rules.specs.Answers.{Cancelled}
 use Rattle.rules.specs.States.{idle, to_step}
 use Rattle.rules.specs.Queues.{oldest, served}
 use Rattle.rules.specs.Step.{eof_owed, due_of, next_length, sum_behind, awaiting, after_cancel_eof, after_metadata, onward, after_data, after_eof, after_of}
@@ -26,7 +27,6 @@ use Rattle.types.specs.declared.TransactionStep.{TransactionStep}
 use Rattle.types.specs.declared.TransactionStep.TheVariants.{SendingFileData, SendingEof}
 use Rattle.types.specs.declared.Due.{Due}
 use Rattle.types.specs.declared.Due.TheVariants.{CancelEof, Repair, Metadata, Data, NoErrorEof}
-use Rattle.types.specs.declared.Cancelled.{Cancelled}
 use Rattle.rules.proofs.Pending.{Formed, pending-first, pending-changed}
 use Rattle.rules.proofs.Good.{good_kept}
 use Rattle.rules.proofs.Applies.{due_applies}
@@ -108,7 +108,7 @@ module _ (s : State) (file : List ℕ) where
       go false e = (refl, λ z. absurd (eqb-false _ _ e z), λ n. refl, sum-behind s file, (refl, refl, refl), refl, refl)
 
   -- No error: the condition is 0, and all was sent
-  again : NoneOwed s → s.step ≡ SendingEof → Good s → some (eof 0 s.file.sum s.fixed.size) ≡ some (eof s.marks.condition s.file.sum s.file.progress)
+  again : NoneOwed s → s.step ≡ SendingEof → Good s → Some (eof 0 s.file.sum s.fixed.size) ≡ Some (eof s.marks.condition s.file.sum s.file.progress)
   again n e g =
       let p : At SendingEof s = subst (λ (k : TransactionStep). At k s) e g.here in
       rw (g.marks.no_error (not_cancelled p.1 n), p.2) refl

@@ -1,10 +1,10 @@
 -- The third demand's companions before the EOF: no step is refused that has the packet maximum's room, progress is what the first pass has carried,
 -- a used handler is as a fresh one. From `Kept`, and from what an accepted put knows of lengths.
 -- Assumes nothing.
+use Rattle.std.specs.Prelude.{Ok, Option, Result, ⊤}
 use mathlib.Core.Path.{◌≡◌, refl, sym, ap, ap₂, ◌∙◌}
 use mathlib.Core.Bool.{Bool, true, false}
 use mathlib.Core.List.{List, [], ◌∷◌, ◌++◌, map, flat_map, cons≢nil, map-append}
-use mathlib.Core.Option.{Option}
 use Prim.Native.Nat.{ℕ, ◌+◌, ◌-◌, ◌≤◌, ◌<◌}
 use native.Mathlib.Omega.{arith}
 use lib.Dec.{eqb, ltb}
@@ -28,6 +28,7 @@ use Rattle.rules.specs.Demand.{Transfer, planned, lastly, transfer_of, meant}
 use Rattle.rules.specs.Companions.{carried, Live, ProgressMade, SecondPut, NakAsks, PlainSteps, PlainRun}
 use Rattle.rules.specs.Queues.{pending}
 use Rattle.rules_pdu.specs.Decoding.{decode}
+use Rattle.types.specs.declared.Refusal.{Refusal}
 use Rattle.types.specs.declared.Head.{Head}
 use Rattle.types.specs.declared.Frame.{Frame}
 use Rattle.types.specs.declared.LocalEntityConfig.{LocalEntityConfig}
@@ -38,7 +39,6 @@ use Rattle.types.specs.declared.TransactionStep.{TransactionStep}
 use Rattle.types.specs.declared.TransactionStep.TheVariants.{SendingMetadata}
 use Rattle.types.specs.declared.Sending.{Sending}
 use Rattle.types.specs.declared.Sending.TheVariants.{Nothing as NoPdu, Metadata as MetadataPdu, FileData, Eof as EofPdu, AckFinished}
-use Rattle.types.specs.declared.Answer.TheVariants.{Accepted}
 use Rattle.rules_pdu.proofs.Round.{length-encode}
 use Rattle.rules_pdu.proofs.Heard.{heard_read}
 use Rattle.rules.proofs.Outcomes.{differ, answer-by, state-by}
@@ -85,7 +85,7 @@ unchanged w s i = rw (eq-eqb (length w.file) s.fixed.size (sym i.sends.size_is))
     go true = refl
     go false = refl
 
-step-live : (w : Transfer) (s : State) → Inv w s → (n : ℕ) → Wide w n → (expired : Bool) (m : ℕ) → n ≤ m → (step_outcome s w.file expired m).answer ≡ Accepted
+step-live : (w : Transfer) (s : State) → Inv w s → (n : ℕ) → Wide w n → (expired : Bool) (m : ℕ) → n ≤ m → (step_outcome s w.file expired m).answer ≡ Ok tt
 unfolding step_outcome performed
 step-live w s i n z expired m l =
     let d = sending_of s (due_of s expired) in
@@ -94,12 +94,12 @@ step-live w s i n z expired m l =
     rw (unchanged w s i, b)
 
 -- where the first step is accepted
-burst-live : (s : State) (file : List ℕ) (expired : Bool) (count room : ℕ) → count ≤ 16 → (step_outcome s file expired room).answer ≡ Accepted
-    → (burst_outcome s file expired count room).answer ≡ Accepted
+burst-live : (s : State) (file : List ℕ) (expired : Bool) (count room : ℕ) → count ≤ 16 → (step_outcome s file expired room).answer ≡ Ok tt
+    → (burst_outcome s file expired count room).answer ≡ Ok tt
 unfolding burst_outcome burst_answer
 burst-live s file expired count room l e = rw (le-ltb 16 count l, e) (go (eqb count 0))
   where
-    go : (b : Bool) → pick b Accepted Accepted ≡ Accepted
+    go : (b : Bool) → pick {A = Result ⊤ Refusal} b (Ok tt) (Ok tt) ≡ Ok tt
     go true = refl
     go false = refl
 
@@ -247,7 +247,7 @@ second_put h c q a b S e =
     let x = put_answer h c q a b S in
     let y = put_answer g c q a b S in
     let same = same_answer h c q a b S e in
-    let one : (x ≡ Accepted) → (by_answer h (put_state h c q a b S) x).state ≡ (by_answer g (put_state g c q a b S) y).state =
+    let one : (x ≡ Ok tt) → (by_answer h (put_state h c q a b S) x).state ≡ (by_answer g (put_state g c q a b S) y).state =
     λ k. state-by h (put_state h c q a b S) x k ∙ same-state h c q a b S ∙ sym (state-by g (put_state g c q a b S) y (sym same ∙ k)) in (
       answer-by h (put_state h c q a b S) x ∙ same ∙ sym (answer-by g (put_state g c q a b S) y),
       λ k. let u = one (sym (answer-by h (put_state h c q a b S) x) ∙ k) in (u, λ cs. ap (trace cs) u),

@@ -1,5 +1,6 @@
 -- What an accepted put makes, by the tests that it passed.
 -- Assumes nothing.
+use Rattle.std.specs.Prelude.{Err, None, Ok, Option, Result, Some, ⊤}
 use mathlib.Core.Path.{◌≡◌, refl, ap}
 use mathlib.Core.Bool.{Bool, true, false, false≢true}
 use mathlib.Core.List.{List}
@@ -7,29 +8,25 @@ use Prim.Native.Nat.{ℕ, ◌≤◌}
 use lib.ListN.{length}
 use Rattle.rules.specs.Put.{entry_of, chosen, started, put_state}
 use Rattle.rules.specs.Makes.{Chosen, PutMade, PutMakes}
-use Rattle.types.specs.declared.Choice.{Choice}
-use Rattle.types.specs.declared.Choice.TheVariants.{Given, Default}
 use Rattle.types.specs.declared.LocalEntityConfig.{LocalEntityConfig}
 use Rattle.types.specs.declared.PutRequest.{PutRequest}
 use Rattle.types.specs.declared.State.{State}
 use Rattle.types.specs.declared.Refusal.{Refusal}
-use Rattle.types.specs.declared.Answer.{Answer}
-use Rattle.types.specs.declared.Answer.TheVariants.{Accepted, Refused}
 use Rattle.rules.proofs.Begun.{put-passed, name_lengths, name_kept}
 
 -- a refusal is no acceptance
-abbrev taken : Answer → Bool
-taken Accepted = true
-taken (Refused r) = false
+abbrev taken : Result ⊤ Refusal → Bool
+taken (Ok tt) = true
+taken (Err r) = false
 
-pub refused≢accepted : (r : Refusal) → Refused r ≡ Accepted → ⊥
+pub refused≢accepted : (r : Refusal) → Err r ≡ Ok (tt {0}) → ⊥
 refused≢accepted r e = false≢true (ap taken e)
 
 -- ---- put
 
-chosen_is : (q : Choice) (entry : Bool) → Chosen q entry (chosen q entry)
-chosen_is (Given word) entry = refl
-chosen_is Default entry = refl
+chosen_is : (q : Option Bool) (entry : Bool) → Chosen q entry (chosen q entry)
+chosen_is (Some word) entry = refl
+chosen_is None entry = refl
 
 put-made : (s : State) (c : LocalEntityConfig) (q : PutRequest) (source destination : List ℕ) (S : ℕ) → length source ≤ 255 → length destination ≤ 255
     → PutMade s c q source destination S (put_state s c q source destination S)

@@ -1,5 +1,6 @@
 -- The number after a call: every way to another state either keeps it or is an accepted put.
 -- Assumes nothing.
+use Rattle.std.specs.Prelude.{Err, Ok, Result, ⊤}
 use mathlib.Core.Path.{◌≡◌, refl, sym, ap, ◌∙◌}
 use mathlib.Core.Bool.{Bool}
 use mathlib.Core.List.{List, [], ◌∷◌, ◌++◌}
@@ -7,6 +8,7 @@ use Prim.Native.Nat.{ℕ, ◌+◌}
 use lib.Dec.{eqb, ltb}
 use lib.ListN.{length, drop}
 use Rattle.basis.proofs.Pick.{cases}
+use Rattle.rules.specs.Answers.{Stepped}
 use Rattle.rules.specs.States.{idle}
 use Rattle.rules.specs.Put.{started, put_answer, put_state, put_outcome}
 use Rattle.rules.specs.Deliver.{verdict_of, moved_by, asked, by_verdict, deliver_outcome}
@@ -25,17 +27,15 @@ use Rattle.types.specs.declared.TransactionSeqNum.{TransactionSeqNum}
 use Rattle.types.specs.declared.State.{State}
 use Rattle.types.specs.declared.Due.{Due}
 use Rattle.types.specs.declared.Due.TheVariants.{CancelEof, Repair, Metadata, Data, NoErrorEof, EofAgain, FaultCancel, FaultIgnore, FaultAbandon, Close, Nothing}
-use Rattle.types.specs.declared.Answer.{Answer}
-use Rattle.types.specs.declared.Answer.TheVariants.{Accepted, Refused}
-use Rattle.types.specs.declared.Stepped.{Stepped}
+use Rattle.types.specs.declared.Refusal.{Refusal}
 use Rattle.types.specs.declared.Made.{Made}
 use Rattle.rules.proofs.Singly.{burst-keeps}
 use Rattle.rules.proofs.Outcomes.{cancel-by, delivered-by}
 
 -- what leaves the number where a call is accepted leaves it where the call is refused
-unless-same : (a : Answer) (e : Shown) (n : TransactionSeqNum) → n ≡ moves e n → n ≡ moves (unless a e) n
-unless-same Accepted e n h = h
-unless-same (Refused r) e n h = refl
+unless-same : (a : Result ⊤ Refusal) (e : Shown) (n : TransactionSeqNum) → n ≡ moves e n → n ≡ moves (unless a e) n
+unless-same (Ok tt) e n h = h
+unless-same (Err r) e n h = refl
 
 module _ (s : State) where
   -- it is as it was
@@ -48,10 +48,10 @@ module _ (s : State) where
 
   -- ---- put
 
-  put-moves : (t : State) (a : Answer) → t.number ≡ moves began s.number
+  put-moves : (t : State) (a : Result ⊤ Refusal) → t.number ≡ moves began s.number
       → (by_answer s t a).state.number ≡ moves (unless (by_answer s t a).answer began) s.number
-  put-moves t Accepted e = e
-  put-moves t (Refused r) e = refl
+  put-moves t (Ok tt) e = e
+  put-moves t (Err r) e = refl
 
   -- ---- deliver
 

@@ -1,5 +1,6 @@
 -- From a cascade of tests to a table of refusals: what gives the first number whose condition holds gives each number exactly when.
 -- Assumes nothing.
+use Rattle.std.specs.Prelude.{Err, Result, ⊤}
 use mathlib.Core.Path.{◌≡◌, refl, sym, subst, ◌∙◌}
 use mathlib.Core.Logic.{◌⊎◌, inl, inr}
 use mathlib.Core.Bool.{Bool, true, false}
@@ -13,8 +14,6 @@ use Rattle.rules.specs.Exactly.{Rule, ◌when◌, After, Exactly, NoneOf}
 use Rattle.rules.proofs.Tells.{Tells}
 use Rattle.rules.specs.Refusals.{refusal_no, answer_no}
 use Rattle.types.specs.declared.Refusal.{Refusal}
-use Rattle.types.specs.declared.Answer.{Answer}
-use Rattle.types.specs.declared.Answer.TheVariants.{Refused}
 
 -- the number of the first line whose condition holds, 0 if none does
 abbrev FirstIs : List Rule → ℕ → Type 0
@@ -47,9 +46,9 @@ hits f true x y k P rs t e r = record { is = inl (t.yes refl, e) }
 hits f false x y k P rs t e r = record { is = inr (t.no refl, (r refl).is) }
 
 -- a line of a table of tests beside one of a table of conditions
-pub line : (r : Refusal) (b : Bool) (rest : Answer) (P : Type 0) (rs : List Rule)
-    → Tells b P → (b ≡ false → First rs (answer_no rest)) → First ((refusal_no r when P) ∷ rs) (answer_no (pick b (Refused r) rest))
-line r b rest P rs t f = hits answer_no b (Refused r) rest (refusal_no r) P rs t refl f
+pub line : (r : Refusal) (b : Bool) (rest : Result ⊤ Refusal) (P : Type 0) (rs : List Rule)
+    → Tells b P → (b ≡ false → First rs (answer_no rest)) → First ((refusal_no r when P) ∷ rs) (answer_no (pick b (Err r) rest))
+line r b rest P rs t f = hits answer_no b (Err r) rest (refusal_no r) P rs t refl f
 
 -- none holds
 pub passes : First [] 0

@@ -1,5 +1,6 @@
 -- What a put, a delivery and a cancel come to, once for all uses: what holds of each possible outcome holds of the call.
 -- Assumes nothing.
+use Rattle.std.specs.Prelude.{Err, None, Ok, Result, Some, ⊤}
 use mathlib.Core.Path.{◌≡◌, refl, subst}
 use mathlib.Core.Bool.{Bool, true, false}
 use mathlib.Core.List.{List, ◌++◌}
@@ -9,6 +10,7 @@ use lib.Dec.{ltb}
 use Rattle.basis.specs.Pick.{pick, ◌and◌, ◌or◌, not}
 use Rattle.basis.proofs.Pick.{neither}
 use Rattle.rules_pdu.specs.Reading.{head_in, well_framed, frame_in, framed_in, body_in, body_of}
+use Rattle.rules.specs.Answers.{Done, Delivered, Cancelled}
 use Rattle.rules.specs.Refusals.{refused, accepted, by_answer}
 use Rattle.rules.specs.States.{is_idle}
 use Rattle.rules.specs.Queues.{pending, any_invalid, owing, free, push_all}
@@ -23,17 +25,11 @@ use Rattle.types.specs.declared.LocalEntityConfig.{LocalEntityConfig}
 use Rattle.types.specs.declared.PutRequest.{PutRequest}
 use Rattle.types.specs.declared.SegmentRequest.{SegmentRequest}
 use Rattle.types.specs.declared.Frame.{Frame}
-use Rattle.types.specs.declared.Framed.TheVariants.{Malformed as NoFrame, Whole}
-use Rattle.types.specs.declared.Body.{Body}
-use Rattle.types.specs.declared.Body.TheVariants.{Malformed as NoPdu, CantProcess, Means}
+use Rattle.types.specs.declared.ReadError.{ReadError}
+use Rattle.types.specs.declared.ReadError.TheVariants.{Malformed as NoPdu, CantProcess}
 use Rattle.types.specs.declared.Meaning.{Meaning}
 use Rattle.types.specs.declared.State.{State}
 use Rattle.types.specs.declared.Refusal.{Refusal}
-use Rattle.types.specs.declared.Answer.{Answer}
-use Rattle.types.specs.declared.Answer.TheVariants.{Accepted, Refused}
-use Rattle.types.specs.declared.Done.{Done}
-use Rattle.types.specs.declared.Delivered.{Delivered}
-use Rattle.types.specs.declared.Cancelled.{Cancelled}
 use Rattle.rules.proofs.Tiles.{Within}
 use Rattle.rules.proofs.Pending.{Orderly, answers-within, all-answers, orderly-all}
 
@@ -44,20 +40,20 @@ differ e = absurd (omega arith)
 -- ---- put
 
 -- an accepted call: the first test is false, and so are the others
-pub passed : (b : Bool) (x : Answer) (r : Refusal) → pick b (Refused r) x ≡ Accepted → (b ≡ false) × (x ≡ Accepted)
+pub passed : (b : Bool) (x : Result ⊤ Refusal) (r : Refusal) → pick b (Err r) x ≡ Ok tt → (b ≡ false) × (x ≡ Ok tt)
 passed true x r e = differ cc
 passed false x r e = (refl, e)
 
 -- .. that denies another
-pub passed-not : (b : Bool) (x : Answer) (r : Refusal) → pick (not b) (Refused r) x ≡ Accepted → (b ≡ true) × (x ≡ Accepted)
+pub passed-not : (b : Bool) (x : Result ⊤ Refusal) (r : Refusal) → pick (not b) (Err r) x ≡ Ok tt → (b ≡ true) × (x ≡ Ok tt)
 passed-not true x r e = (refl, e)
 passed-not false x r e = differ cc
 
-pub answer-by : (s t : State) (x : Answer) → (by_answer s t x).answer ≡ x
-answer-by s t Accepted = refl
-answer-by s t (Refused r) = refl
+pub answer-by : (s t : State) (x : Result ⊤ Refusal) → (by_answer s t x).answer ≡ x
+answer-by s t (Ok tt) = refl
+answer-by s t (Err r) = refl
 
-pub state-by : (s t : State) (x : Answer) → x ≡ Accepted → (by_answer s t x).state ≡ t
+pub state-by : (s t : State) (x : Result ⊤ Refusal) → x ≡ Ok tt → (by_answer s t x).state ≡ t
 state-by s t x e = rw e
 
 module _ (s : State) (P : Shown → State → Type 0) (stays : P turned s) where
@@ -67,9 +63,9 @@ module _ (s : State) (P : Shown → State → Type 0) (stays : P turned s) where
   unfolding put_outcome put_answer
   put-by begins c q a b S = go (put_answer s c q a b S) (λ e. (passed-not (is_idle s.step) _ _ e).0)
     where
-      go : (x : Answer) → (x ≡ Accepted → is_idle s.step ≡ true) → let r = by_answer s (put_state s c q a b S) x in P (unless r.answer began) r.state
-      go Accepted i = begins (put_state s c q a b S) (i refl)
-      go (Refused r) i = stays
+      go : (x : Result ⊤ Refusal) → (x ≡ Ok tt → is_idle s.step ≡ true) → let r = by_answer s (put_state s c q a b S) x in P (unless r.answer began) r.state
+      go (Ok tt) i = begins (put_state s c q a b S) (i refl)
+      go (Err r) i = stays
 
   -- ---- cancel
 
@@ -93,7 +89,7 @@ pub record Taken (s : State) (rs : List SegmentRequest) (m : Meaning) : Type 0 w
   pub valid : any_invalid s.file.progress rs ≡ false
   pub room : ltb (free s.queue) (owing rs) ≡ false
 
-pub taken : (s : State) (bytes : List ℕ) (said : Body) → deliver_answer s bytes said ≡ Accepted → Taken s (asked bytes (frame_in bytes) (meaning_of said)) (meaning_of said)
+pub taken : (s : State) (bytes : List ℕ) (said : Result Meaning ReadError) → deliver_answer s bytes said ≡ Ok tt → Taken s (asked bytes (frame_in bytes) (meaning_of said)) (meaning_of said)
 unfolding deliver_answer unexpected
 taken s bytes said e =
     let p = passed (is_malformed said) _ _ e in
@@ -112,12 +108,12 @@ asked-same bytes = go (well_framed bytes)
     f : Frame
     f = frame_in bytes
 
-    body : (v : Body) → asked bytes f (meaning_of v) ≡ requests_of_body bytes f v
-    body NoPdu = refl
-    body CantProcess = refl
-    body (Means m) = refl
+    body : (v : Result Meaning ReadError) → asked bytes f (meaning_of v) ≡ requests_of_body bytes f v
+    body (Err NoPdu) = refl
+    body (Err CantProcess) = refl
+    body (Ok m) = refl
 
-    go : (b : Bool) → asked bytes f (meaning_of (pick b (body_of f (body_in bytes)) NoPdu)) ≡ requests_of_frame bytes (pick b (Whole f) NoFrame)
+    go : (b : Bool) → asked bytes f (meaning_of (pick b (body_of f (body_in bytes)) (Err NoPdu))) ≡ requests_of_frame bytes (pick b (Some f) None)
     go true = body (body_of f (body_in bytes))
     go false = refl
 
@@ -132,11 +128,11 @@ module _ (s : State) (P : List SegmentRequest → Done → Type 0) (no : (rs : L
   unfolding deliver_outcome deliver_state
   delivered-by bytes = go (deliver_answer s bytes (said_in bytes)) refl
     where
-      go : (x : Answer) → deliver_answer s bytes (said_in bytes) ≡ x → P (requests bytes) (by_answer s (deliver_state s bytes (said_in bytes)) x)
-      go Accepted e =
+      go : (x : Result ⊤ Refusal) → deliver_answer s bytes (said_in bytes) ≡ x → P (requests bytes) (by_answer s (deliver_state s bytes (said_in bytes)) x)
+      go (Ok tt) e =
           subst (λ (rs : List SegmentRequest). P rs (accepted (deliver_state s bytes (said_in bytes)))) (asked-same bytes)
           (yes bytes (frame_in bytes) (meaning_of (said_in bytes)) (taken s bytes (said_in bytes) e))
-      go (Refused r) e = no (requests bytes) r
+      go (Err r) e = no (requests bytes) r
 
 -- a NAK's requests that are taken add what they owe behind what is pending
 pub nak-adds : (L S : ℕ) (s : State) → 0 < L → Orderly L S s.queue → s.file.progress ≤ S → (rs : List SegmentRequest) (m : Meaning) → Taken s rs m

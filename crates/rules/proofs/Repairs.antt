@@ -1,11 +1,11 @@
 -- A NAK's requests are answered whole, also after the EOF. `Loose` is what holds of the handler from an accepted put on, until a cancel, a reset or
 -- the next put; while something is owed and no other call is accepted, each step takes the head of what is owed.
 -- Assumes nothing.
+use Rattle.std.specs.Prelude.{Ok, Option, Some}
 use mathlib.Core.Path.{◌≡◌, refl, sym, ap, ◌∙◌, subst}
 use mathlib.Core.Logic.{◌⊎◌, inl, inr}
 use mathlib.Core.Bool.{Bool, true, false, true≢false}
 use mathlib.Core.List.{List, [], ◌∷◌, ◌++◌, map, flat_map}
-use mathlib.Core.Option.{Option, some}
 use Prim.Native.Nat.{ℕ, zero, suc, ◌+◌, ◌≤◌, ◌<◌}
 use native.Mathlib.Omega.{arith}
 use lib.Dec.{eqb, leb, ltb}
@@ -15,6 +15,7 @@ use borrow.Author.Tests.{ltb-true, ltb-false}
 use Rattle.basis.specs.Pick.{pick}
 use Rattle.basis.proofs.Pick.{neither, cases}
 use Rattle.rules_pdu.specs.Decoding.{decode}
+use Rattle.rules.specs.Answers.{Done, Stepped}
 use Rattle.rules.specs.Refusals.{refused, accepted}
 use Rattle.rules.specs.States.{is_idle, with_queue, empty_queue, idle}
 use Rattle.rules.specs.Queues.{push_all, oldest, served}
@@ -42,9 +43,6 @@ use Rattle.types.specs.declared.Due.{Due}
 use Rattle.types.specs.declared.Due.TheVariants.{CancelEof, Repair, Metadata, Data, NoErrorEof, EofAgain, FaultCancel, FaultIgnore, FaultAbandon, Close, Nothing}
 use Rattle.types.specs.declared.Sending.{Sending}
 use Rattle.types.specs.declared.Refusal.{Refusal}
-use Rattle.types.specs.declared.Answer.TheVariants.{Accepted}
-use Rattle.types.specs.declared.Done.{Done}
-use Rattle.types.specs.declared.Stepped.{Stepped}
 use Rattle.rules.proofs.Singly.{run, end, LendsAll, singly, as_run, as_end, as_lends}
 use Rattle.rules.proofs.Tiles.{length-answers}
 use Rattle.rules.proofs.Pending.{pending-none, Orderly, orderly-empty, orderly-more, served-answers, orderly-served}
@@ -285,7 +283,7 @@ record Serving (w : Transfer) (s : State) : Type 0 where
 
 data Goes (w : Transfer) (s : State) : Shown → State → Type 0 where
   stays : Goes w s turned s
-  serves-next : (d : Sending) (t : State) → owed_by w s ≡ d ∷ owed_by w t → Serving w t → Goes w s (went (some (bytes_of w d))) t
+  serves-next : (d : Sending) (t : State) → owed_by w s ≡ d ∷ owed_by w t → Serving w t → Goes w s (went (Some (bytes_of w d))) t
   runs_out : (d : Option (List ℕ)) (t : State) → owed_by w s ≡ [] → Goes w s (went d) t
   takes-other : (m : List ℕ) (t : State) → Goes w s (took m) t
   ends_it : (t : State) → Goes w s ended t
@@ -395,7 +393,7 @@ map-take {A} {B} f (suc n) (x ∷ l) = ap (λ (k : List B). f x ∷ k) (map-take
 
 all-served :
     (w : Transfer) → Carries w → (s : State) → Loose w s → (bytes : List ℕ) → 0 < length (requests bytes)
-    → (r : Done) → Heeds w s (requests bytes) r → r.answer ≡ Accepted
+    → (r : Done) → Heeds w s (requests bytes) r → r.answer ≡ Ok tt
     → (ds : List Call) → Lends w.file ds → StepsOnly (trace ds r.state)
     → let all = owed_by w s ++ answers w.segment (requests bytes) in
     step_count (trace ds r.state) ≤ length all

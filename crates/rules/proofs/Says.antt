@@ -1,10 +1,10 @@
 -- What leaves decodes to the PDU that document 01 names: in a good state it can be said, so reading what was written gives it back.
 -- Assumes nothing.
+use Rattle.std.specs.Prelude.{Ok, Option, None, Some}
 use mathlib.Core.Path.{◌≡◌, refl, sym, ap, subst, ◌∙◌}
 use mathlib.Core.Logic.{◌↔◌, ◌⊎◌, inl, inr, ⊎_elim}
 use mathlib.Core.Bool.{Bool, true, false, false≢true}
 use mathlib.Core.List.{List, [], ◌∷◌, ◌++◌}
-use mathlib.Core.Option.{Option, none, some}
 use Prim.Native.Nat.{ℕ, ◌+◌, ◌-◌, ◌*◌, ◌^◌, ◌<◌, ◌≤◌, min}
 use native.Mathlib.Omega.{arith}
 use borrow.Author.Tests.{eqb-true, ltb-true, ltb-false}
@@ -21,6 +21,7 @@ use Rattle.rules_pdu.specs.Reading.{reserved}
 use Rattle.rules_pdu.specs.Decoding.{with_head, decode}
 use Rattle.rules_pdu.specs.PduLaws.{Fit, Sayable}
 use Rattle.rules_pdu.proofs.Round.{read_back, nothing_read, size_fits}
+use Rattle.rules.specs.Answers.{Stepped}
 use Rattle.rules.specs.States.{idle}
 use Rattle.rules.specs.Queues.{pending, is_metadata, owes, oldest, pop}
 use Rattle.rules.specs.Step.{due_of, repair_of, closing, closure_bit, sending_of, bytes_for, bytes_due, events_of, after_of, changed, performed, step_outcome, step_bytes}
@@ -34,8 +35,6 @@ use Rattle.types.specs.declared.TransactionStep.TheVariants.{SendingMetadata, Se
 use Rattle.types.specs.declared.Due.{Due}
 use Rattle.types.specs.declared.Due.TheVariants.{CancelEof, Repair, Metadata, Data, NoErrorEof, EofAgain, FaultCancel, FaultIgnore, FaultAbandon, Close, Nothing}
 use Rattle.types.specs.declared.Sending.TheVariants.{Nothing as NoPdu, Metadata as MetadataPdu, FileData, AckFinished}
-use Rattle.types.specs.declared.Answer.TheVariants.{Accepted}
-use Rattle.types.specs.declared.Stepped.{Stepped}
 use Rattle.rules.proofs.Pending.{Formed, pending-first}
 use Rattle.rules.proofs.Good.{awake-under, under}
 use Rattle.rules.proofs.PutExactly.{type-small}
@@ -45,12 +44,12 @@ use Rattle.rules.proofs.Applies.{due_applies}
 -- ---- what can be said is read back
 
 abbrev Can : Head → Option Said → Type 0
-Can h none = Unit {0}
-Can h (some m) = Fit h × Sayable h m
+Can h None = Unit {0}
+Can h (Some m) = Fit h × Sayable h m
 
 decode-written : (h : Head) (x : Option Said) → Can h x → decode (bytes_of h x) ≡ with_head h x
-decode-written h none c = nothing_read
-decode-written h (some m) c = read_back h m c.0 c.1
+decode-written h None c = nothing_read
+decode-written h (Some m) c = read_back h m c.0 c.1
 
 -- ---- in a good state each PDU can be said
 
@@ -82,16 +81,16 @@ module _ (s : State) (file : List ℕ) (g : Good s) (y : Bytes file) where
   unfolding h
   place n u l = let z = size_fits s.fixed.size u.fixed.size in rw u.fixed.large (omega arith)
 
-  can_eof : (c : ℕ) → Ours c → Under s → Can h (some (eof_of_sent s c))
+  can_eof : (c : ℕ) → Ours c → Under s → Can h (Some (eof_of_sent s c))
   unfolding h
   can_eof c o u = (u.fixed.head, ((unreserved c o).0, (unreserved c o).1, g.sum, place s.file.progress u g.progress))
 
-  can_metadata : Under s → Can h (some (its_metadata s))
+  can_metadata : Under s → Can h (Some (its_metadata s))
   unfolding h
   can_metadata u =
       (u.fixed.head, (type-small s.fixed.checksum u.fixed.type, place s.fixed.size u (omega arith), name_small _ _ u.source, name_small _ _ u.destination))
 
-  can_bytes : (o n : ℕ) → Under s → o ≤ s.fixed.size → Can h (some (bytes_at file o (min s.fixed.segment n)))
+  can_bytes : (o n : ℕ) → Under s → o ≤ s.fixed.size → Can h (Some (bytes_at file o (min s.fixed.segment n)))
   unfolding h
   can_bytes o n u l = (u.fixed.head, (place o u l, some-small s.fixed.head s.fixed.segment n (drop o file) (let r = u.fixed.room in omega arith)))
 
@@ -121,7 +120,7 @@ module _ (s : State) (file : List ℕ) (g : Good s) (y : Bytes file) where
   can_answer : (rs : List SegmentRequest) → Under s → AllOwe s.file.progress rs → Can h (answer_to s file rs)
   can_answer [] u o = tt
   can_answer (r ∷ rs) u o =
-      cases (λ (m : Said). Can h (some m)) (eqb r.start 0 and eqb r.end 0) _ _ (λ _. can_metadata u)
+      cases (λ (m : Said). Can h (Some m)) (eqb r.start 0 and eqb r.end 0) _ _ (λ _. can_metadata u)
       (λ _. can_bytes r.start (r.end - r.start) u (owes-within r o.0 o.1))
 
   condition_ours : Ours s.marks.condition
@@ -134,7 +133,7 @@ module _ (s : State) (file : List ℕ) (g : Good s) (y : Bytes file) where
   can_close : At Closing s → Can h (named s file Close)
   unfolding h
   can_close p =
-      cases (Can h) s.fixed.head.unacknowledged none (some (ack_finished s.marks.finished.condition 1)) (λ _. tt)
+      cases (Can h) s.fixed.head.unacknowledged None (Some (ack_finished s.marks.finished.condition 1)) (λ _. tt)
       (λ _. (p.0.fixed.head, (g.marks.finished.0, g.marks.finished.1, omega arith)))
 
   can_say : (expired : Bool) (d : Due) → Applies s expired d → Can h (named s file d)
@@ -173,7 +172,7 @@ module _ (s : State) (file : List ℕ) where
   close-written = go s.fixed.head.unacknowledged
     where
       go : (b : Bool) → bytes_for s file (pick b NoPdu (AckFinished s.marks.finished.condition))
-          ≡ bytes_of s.fixed.head (pick b none (some (ack_finished s.marks.finished.condition 1)))
+          ≡ bytes_of s.fixed.head (pick b None (Some (ack_finished s.marks.finished.condition 1)))
       go true = refl
       go false = refl
 
@@ -201,15 +200,15 @@ pub record Unrefused (s : State) (file : List ℕ) (expired : Bool) (room : ℕ)
   pub state-is : r.state ≡ after_of s file (due_of s expired)
   pub events_are : r.events ≡ events_of s (due_of s expired)
 
-pub step-taken : (s : State) (file : List ℕ) (expired : Bool) (room : ℕ) → (step_outcome s file expired room).answer ≡ Accepted → Unrefused s file expired room (step_outcome s file expired room)
+pub step-taken : (s : State) (file : List ℕ) (expired : Bool) (room : ℕ) → (step_outcome s file expired room).answer ≡ Ok tt → Unrefused s file expired room (step_outcome s file expired room)
 unfolding step_outcome performed
 step-taken s file expired room =
-    let P : Stepped → Type 0 = λ r. r.answer ≡ Accepted → Unrefused s file expired room r in
+    let P : Stepped → Type 0 = λ r. r.answer ≡ Ok tt → Unrefused s file expired room r in
     cases P (changed s (length file)) _ _ (λ t e. absurd (refused≢accepted _ e))
     (λ t. cases P (ltb room (length (bytes_due s file expired))) _ _ (λ u e. absurd (refused≢accepted _ e))
     (λ u e. record { unchanged = t; fits = ltb-false room _ u; length-is = refl; state-is = refl; events_are = refl }))
 
-module _ (s : State) (file : List ℕ) (expired : Bool) (out : List ℕ) (a : (step_outcome s file expired (length out)).answer ≡ Accepted) where
+module _ (s : State) (file : List ℕ) (expired : Bool) (out : List ℕ) (a : (step_outcome s file expired (length out)).answer ≡ Ok tt) where
   laid_in_front : step_bytes s file expired out ≡ in_front (bytes_due s file expired) out
   unfolding step_bytes
   laid_in_front = rw (step-taken s file expired (length out) a).unchanged refl
@@ -253,10 +252,10 @@ tied = (λ e. (e, tt), λ p. p.0)
 
 pub answer-no-eof : (s : State) (file : List ℕ) (rs : List SegmentRequest) → ¬ IsEof (answer_to s file rs)
 answer-no-eof s file [] = λ e. e
-answer-no-eof s file (r ∷ rs) = cases (λ (m : Said). ¬ IsEof (some m)) (eqb r.start 0 and eqb r.end 0) _ _ (λ _ e. e) (λ _ e. e)
+answer-no-eof s file (r ∷ rs) = cases (λ (m : Said). ¬ IsEof (Some m)) (eqb r.start 0 and eqb r.end 0) _ _ (λ _ e. e) (λ _ e. e)
 
 pub close-no-eof : (s : State) (file : List ℕ) → ¬ IsEof (named s file Close)
-close-no-eof s file = cases (λ (x : Option Said). ¬ IsEof x) s.fixed.head.unacknowledged none _ (λ _ e. e) (λ _ e. e)
+close-no-eof s file = cases (λ (x : Option Said). ¬ IsEof x) s.fixed.head.unacknowledged None _ (λ _ e. e) (λ _ e. e)
 
 eof-tied : (s : State) (file : List ℕ) (d : Due) → Tied s file d
 eof-tied s file CancelEof = tied

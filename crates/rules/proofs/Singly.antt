@@ -1,8 +1,8 @@
 -- Runs of single calls, and that every run is one: a burst in it is replaced by the steps that it made. So what is proved call by call holds with bursts among the calls.
 -- Assumes nothing.
+use Rattle.std.specs.Prelude.{Err, Ok, Result, ⊤, Some}
 use mathlib.Core.Path.{◌≡◌, refl, sym, ap, ap₂, subst, ◌∙◌}
 use mathlib.Core.Bool.{Bool, true, false}
-use mathlib.Core.Option.{some}
 use mathlib.Core.List.{List, [], ◌∷◌, ◌++◌, map, cons≢nil}
 use Prim.Native.Nat.{ℕ, zero, suc, ◌-◌, ◌≤◌}
 use native.Mathlib.Omega.{arith}
@@ -13,6 +13,7 @@ use borrow.Author.Tests.{ltb-false}
 use Rattle.basis.specs.Pick.{pick}
 use Rattle.basis.specs.Bytes.{Bytes}
 use Rattle.basis.specs.Laid.{in_front}
+use Rattle.rules.specs.Answers.{Stepped}
 use Rattle.rules.specs.Refusals.{answer_no}
 use Rattle.rules.specs.Step.{due_of, events_of, after_of, bytes_due, changed, refused_step, performed, step_outcome, step_bytes}
 use Rattle.rules.specs.Burst.{if_made, steps_of, laid_of, allowed, made_of, none_made, in_places, last_of, burst_outcome, burst_bytes}
@@ -21,10 +22,8 @@ use Rattle.rules.specs.Good.{ProperSingle, ProperCall, Proper}
 use Rattle.rules.specs.Bursts.{OneByOne, as_steps, BurstCounts}
 use Rattle.types.specs.declared.State.{State}
 use Rattle.types.specs.declared.Made.{Made}
-use Rattle.types.specs.declared.Stepped.{Stepped}
 use Rattle.types.specs.declared.Refusal.TheVariants.{FileChanged, OutTooSmall}
-use Rattle.types.specs.declared.Answer.{Answer}
-use Rattle.types.specs.declared.Answer.TheVariants.{Accepted, Refused}
+use Rattle.types.specs.declared.Refusal.{Refusal}
 use Rattle.rules.proofs.Exactly.{numbered, step_keeps}
 
 -- ---- runs of single calls
@@ -62,7 +61,7 @@ step_fits s file expired out = go (changed s (length file)) (ltb (length out) (l
 
     go : (b c : Bool) → ltb (length out) (length bs) ≡ c
         → Fits (pick b (refused_step s FileChanged) (pick c (refused_step s OutTooSmall)
-        (record { answer = Accepted; length = length bs; events = events_of s (due_of s expired); state = after_of s file (due_of s expired) })))
+        (record { answer = (Ok tt); length = length bs; events = events_of s (due_of s expired); state = after_of s file (due_of s expired) })))
         (pick b out (pick c out (bs ++ drop (length bs) out))) out
     go true c e = record { fits = omega arith; behind_it = refl }
     go false true e = record { fits = omega arith; behind_it = refl }
@@ -103,10 +102,10 @@ on_step : (s : State) (file : List ℕ) (expired : Bool) (out : List ℕ) (rs : 
     let o = step_bytes s file expired out in
     OneByOne file (map made_of rs) false r.state (drop r.length out) (last_of r.state rs) rest
     → (¬ (answer_no r.answer ≡ 0) → rest ≡ drop r.length o)
-    → (a : Answer) → r.answer ≡ a
+    → (a : Result ⊤ Refusal) → r.answer ≡ a
     → OneByOne file (map made_of (if_made a (r ∷ rs))) expired s out (last_of s (if_made a (r ∷ rs))) (take r.length o ++ rest)
-on_step s file expired out rs rest h z Accepted e = (e, refl, refl, rest, refl, h)
-on_step s file expired out rs rest h z (Refused k) e =
+on_step s file expired out rs rest h z (Ok tt) e = (e, refl, refl, rest, refl, h)
+on_step s file expired out rs rest h z (Err k) e =
     let n : ¬ (answer_no (step_outcome s file expired (length out)).answer ≡ 0) = rw e (numbered k) in
     (refl, refused-laid s file expired out rest n (z n))
 
@@ -144,7 +143,7 @@ one_by_one (suc n) s file expired out =
 
 pdu-front : (n : ℕ) (o rest : List ℕ) → n ≤ length o → pdu_in n (take n o ++ rest) ≡ pdu_in n o
 pdu-front zero o rest l = refl
-pdu-front (suc n) o rest l = ap (λ (x : List ℕ). some x) (take_at (take (suc n) o) rest (suc n) (length-take-le (suc n) o l))
+pdu-front (suc n) o rest l = ap (λ (x : List ℕ). Some x) (take_at (take (suc n) o) rest (suc n) (length-take-le (suc n) o l))
 
 pub steps-run : (file : List ℕ) (ms : List Made) (expired : Bool) (s : State) (out : List ℕ) (t : State) (laid : List ℕ) → OneByOne file ms expired s out t laid
     → (run (as_steps file expired ms out) s ≡ went_each ms laid) × (end (as_steps file expired ms out) s ≡ t)
@@ -185,10 +184,10 @@ steps-keep Q file h (suc n) s expired room q =
     go r.answer r (eqb r.length 0) (steps_of n r.state file false (room - r.length)) (h s expired room q)
     (steps-keep Q file h n r.state false (room - r.length) (h s expired room q))
   where
-    go : (a : Answer) (r : Stepped) (quiet : Bool) (rs : List Stepped) → Q r.state → Q (last_of r.state rs) → Q (last_of s (if_made a (r ∷ pick quiet [] rs)))
-    go Accepted r true rs x y = x
-    go Accepted r false rs x y = y
-    go (Refused k) r quiet rs x y = q
+    go : (a : Result ⊤ Refusal) (r : Stepped) (quiet : Bool) (rs : List Stepped) → Q r.state → Q (last_of r.state rs) → Q (last_of s (if_made a (r ∷ pick quiet [] rs)))
+    go (Ok tt) r true rs x y = x
+    go (Ok tt) r false rs x y = y
+    go (Err k) r quiet rs x y = q
 
 pub burst-keeps : (Q : State → Type 0) (file : List ℕ) → ((s : State) (expired : Bool) (room : ℕ) → Q s → Q (step_outcome s file expired room).state)
     → (s : State) (expired : Bool) (count room : ℕ) → Q s → Q (burst_outcome s file expired count room).state

@@ -1,10 +1,10 @@
 -- The bytes of a transfer's PDUs, read by the other side: each decodes to what it says, the tiles join to the file, an EOF is known by its code.
 -- From the round trip, once for each kind of PDU, and the tiles' own predicate.
 -- Assumes nothing.
+use Rattle.std.specs.Prelude.{Option, None, Some}
 use mathlib.Core.Path.{◌≡◌, refl, ap₂}
 use mathlib.Core.Bool.{true, false}
 use mathlib.Core.List.{List, [], ◌∷◌, map}
-use mathlib.Core.Option.{Option, none, some}
 use Prim.Native.Nat.{ℕ, ◌+◌, ◌-◌, ◌*◌, ◌^◌, ◌≤◌, ◌<◌}
 use native.Mathlib.Omega.{arith}
 use lib.ListN.{length, take, drop, length-take, length-drop}
@@ -85,10 +85,10 @@ module _ (w : Transfer) (c : Carries w) where
 
   -- ---- the file data in them
 
-  pub data_of : (a n : ℕ) → a + n ≤ length w.file → n ≤ w.segment → file_data_of (bytes_of w (FileData a n)) ≡ some (a, take n (drop a w.file))
+  pub data_of : (a n : ℕ) → a + n ≤ length w.file → n ≤ w.segment → file_data_of (bytes_of w (FileData a n)) ≡ Some (a, take n (drop a w.file))
   data_of a n h l = file_data_lem w.head a (take n (drop a w.file)) c.fit (data_sayable a n h l)
 
-  pub metadata-of : file_data_of (bytes_of w MetadataPdu) ≡ none
+  pub metadata-of : file_data_of (bytes_of w MetadataPdu) ≡ None
   unfolding file_data_of
   metadata-of = rw metadata-read
 

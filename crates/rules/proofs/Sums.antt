@@ -1,11 +1,11 @@
 -- Request R-2. What each call does to the stored number is one of three (`Moves`): it ends the transaction, it leaves progress and number, or it sends the next piece of the
 -- first pass and goes on over it. From that, over every run, the bytes that an observer joins (`sum_kept`) and the bytes of the file that is lent (`same_link`).
 -- Assumes nothing.
+use Rattle.std.specs.Prelude.{Err, Ok, Result, ⊤, Option, None, Some}
 use mathlib.Core.Path.{◌≡◌, refl, sym, ap, subst, ◌∙◌}
 use mathlib.Core.Logic.{◌⊎◌, inl, inr}
 use mathlib.Core.Bool.{Bool, true, false, false≢true}
 use mathlib.Core.List.{List, [], ◌∷◌, ◌++◌}
-use mathlib.Core.Option.{Option, none, some}
 use Prim.Native.Nat.{ℕ, zero, suc, ◌+◌, ◌^◌, ◌≤◌, ◌<◌}
 use native.Mathlib.Omega.{arith}
 use lib.Dec.{eqb}
@@ -22,6 +22,7 @@ use Rattle.rules_pdu.specs.Reading.{bit_in, file_data_in, id_width_in, seq_width
 use Rattle.rules_pdu.specs.PduLaws.{Fit}
 use Rattle.rules_pdu.proofs.Round.{nothing_read, eof-seen}
 use Rattle.rules_pdu.specs.Decoding.{with_head, decode, is_eof_in, data_of_said, data_of_pdu, file_data_of}
+use Rattle.rules.specs.Answers.{Stepped}
 use Rattle.rules.specs.States.{is_idle, idle}
 use Rattle.rules.specs.Queues.{is_metadata, owes, pending}
 use Rattle.rules.specs.Put.{started, put_answer, put_state, put_outcome}
@@ -49,9 +50,7 @@ use Rattle.types.specs.declared.Due.{Due}
 use Rattle.types.specs.declared.Due.TheVariants.{CancelEof, Repair, Metadata, Data, NoErrorEof, EofAgain, FaultCancel, FaultIgnore, FaultAbandon, Close, Nothing}
 use Rattle.types.specs.declared.Sending.{Sending}
 use Rattle.types.specs.declared.Sending.TheVariants.{Nothing as NoPdu, Metadata as MetadataPdu, FileData, Eof as EofPdu, AckFinished}
-use Rattle.types.specs.declared.Answer.{Answer}
-use Rattle.types.specs.declared.Answer.TheVariants.{Accepted, Refused}
-use Rattle.types.specs.declared.Stepped.{Stepped}
+use Rattle.types.specs.declared.Refusal.{Refusal}
 use Rattle.rules.proofs.Tells.{tells_idle}
 use Rattle.rules.proofs.Exactly.{numbered, step_keeps}
 use Rattle.rules.proofs.Outcomes.{answer-by, state-by, cancel-by, delivered-by}
@@ -67,14 +66,14 @@ use Rattle.rules.proofs.Says.{step-taken, due_says, answer-no-eof, close-no-eof}
 -- ---- the file data that a PDU carries
 
 abbrev data_in : Option Said → Option (ℕ × List ℕ)
-data_in none = none
-data_in (some m) = data_of_said m
+data_in None = None
+data_in (Some m) = data_of_said m
 
 data_with : (h : Head) (x : Option Said) → data_of_pdu (with_head h x) ≡ data_in x
-data_with h none = refl
-data_with h (some m) = refl
+data_with h None = refl
+data_with h (Some m) = refl
 
-data_of : (s : State) (lent : List ℕ) (expired : Bool) (out : List ℕ) → Good s → Bytes lent → (step_outcome s lent expired (length out)).answer ≡ Accepted
+data_of : (s : State) (lent : List ℕ) (expired : Bool) (out : List ℕ) → Good s → Bytes lent → (step_outcome s lent expired (length out)).answer ≡ Ok tt
     → file_data_of (pdu_of s lent expired out) ≡ data_in (named s lent (due_of s expired))
 unfolding file_data_of
 data_of s lent expired out g b a = ap data_of_pdu (due_says.says s lent expired out g b a) ∙ data_with s.fixed.head (named s lent (due_of s expired))
@@ -89,7 +88,7 @@ data Moves (s : State) (lent : List ℕ) (x : Option Said) (t : State) : Type 0 
   ends : t.step ≡ Idle → Moves s lent x t
   stays : t.file ≡ s.file → t.fixed ≡ s.fixed → Apart s x → Moves s lent x t
   goes : t.file ≡ record { progress = s.file.progress + next_length s; sum = sum_behind s lent } → t.fixed ≡ s.fixed
-      → data_in x ≡ some (s.file.progress, next_piece s lent) → Moves s lent x t
+      → data_in x ≡ Some (s.file.progress, next_piece s lent) → Moves s lent x t
 
 module _ (s : State) (lent : List ℕ) (g : Good s) where
   -- a request begins before the bytes that were sent end
@@ -114,8 +113,8 @@ module _ (s : State) (lent : List ℕ) (g : Good s) where
   fault-moves : (c : ℕ) (d : Due) → Declared s c d → Moves s lent (named s lent d) (after_of s lent d)
   fault-moves c _ (cancels e a) = cancel-moves (named s lent (FaultCancel c)) (fault_marked s c) refl refl refl (λ bs p. refl)
   fault-moves c _ (ignores e a) = stays refl refl (λ bs p. refl)
-  fault-moves c _ (abandons e a b) = ends-idle none
-  fault-moves c _ (once_cancelled e) = ends-idle none
+  fault-moves c _ (abandons e a b) = ends-idle None
+  fault-moves c _ (once_cancelled e) = ends-idle None
 
   due-moves : (expired : Bool) (d : Due) → Applies s expired d → Moves s lent (named s lent d) (after_of s lent d)
   unfolding after_metadata after_data after_eof
@@ -139,7 +138,7 @@ module _ (s : State) (lent : List ℕ) (g : Good s) where
 -- ---- a step: refused, or accepted with its PDU
 
 step_by : (P : Shown → State → Type 0) (s : State) (lent : List ℕ) (expired : Bool) (out : List ℕ) → P turned s
-    → ((step_outcome s lent expired (length out)).answer ≡ Accepted
+    → ((step_outcome s lent expired (length out)).answer ≡ Ok tt
     → P (went (pdu_in (step_outcome s lent expired (length out)).length (step_bytes s lent expired out))) (after_of s lent (due_of s expired)))
     → P (shows (step lent expired out) s) (after (step lent expired out) s)
 step_by P s lent expired out turns passes = go r.answer refl
@@ -150,9 +149,9 @@ step_by P s lent expired out turns passes = go r.answer refl
     e : Shown
     e = went (pdu_in r.length (step_bytes s lent expired out))
 
-    go : (a : Answer) → r.answer ≡ a → P (unless a e) r.state
-    go Accepted q = subst (P e) (sym (step-taken s lent expired (length out) q).state-is) (passes q)
-    go (Refused k) q = subst (P turned) (sym (step_keeps s lent expired out (λ z. numbered k (ap answer_no (sym q) ∙ z))).0) turns
+    go : (a : Result ⊤ Refusal) → r.answer ≡ a → P (unless a e) r.state
+    go (Ok tt) q = subst (P e) (sym (step-taken s lent expired (length out) q).state-is) (passes q)
+    go (Err k) q = subst (P turned) (sym (step_keeps s lent expired out (λ z. numbered k (ap answer_no (sym q) ∙ z))).0) turns
 
 -- a handler that is Idle stays so
 idle-rests : (s : State) (lent : List ℕ) (expired : Bool) → Good s → s.step ≡ Idle → (after_of s lent (due_of s expired)).step ≡ Idle
@@ -217,11 +216,11 @@ seen_first : (bs : List ℕ) (e : Shown) (es : List Shown) → first_bytes bs (e
 seen_first bs turned es = refl
 seen_first bs began es = refl
 seen_first bs (took bytes) es = refl
-seen_first bs (went none) es = refl
-seen_first bs (went (some pdu)) es = refl
+seen_first bs (went None) es = refl
+seen_first bs (went (Some pdu)) es = refl
 seen_first bs ended es = refl
 
-no_bytes : file_data_of [] ≡ none
+no_bytes : file_data_of [] ≡ None
 unfolding file_data_of
 no_bytes = ap data_of_pdu nothing_read
 
@@ -229,9 +228,9 @@ seen-pdu : (bs : List ℕ) (n : ℕ) (o : List ℕ) → seen bs (went (pdu_in n 
 seen-pdu bs zero o = sym (ap (joined bs) no_bytes)
 seen-pdu bs (suc n) o = refl
 
-seen-took : (bs bytes : List ℕ) (a : Answer) → seen bs (unless a (took bytes)) ≡ bs
-seen-took bs bytes Accepted = refl
-seen-took bs bytes (Refused k) = refl
+seen-took : (bs bytes : List ℕ) (a : Result ⊤ Refusal) → seen bs (unless a (took bytes)) ≡ bs
+seen-took bs bytes (Ok tt) = refl
+seen-took bs bytes (Err k) = refl
 
 -- ---- the stored number is that of the bytes joined
 
@@ -281,9 +280,9 @@ module _ (bs : List ℕ) (s : State) (g : Good s) (h : Held bs s) where
       t : State
       t = put_state s c q source destination S
 
-      go : (a : Answer) → let r = by_answer s (put_state s c q source destination S) a in Held (seen bs (unless r.answer began)) r.state
-      go Accepted = λ n. (sym (goes_on.0 _), refl)
-      go (Refused k) = h
+      go : (a : Result ⊤ Refusal) → let r = by_answer s (put_state s c q source destination S) a in Held (seen bs (unless r.answer began)) r.state
+      go (Ok tt) = λ n. (sym (goes_on.0 _), refl)
+      go (Err k) = h
 
   call_held : (c : Single) → ProperSingle c → Held (seen bs (shows c s)) (after c s)
   unfolding reset_outcome idle
@@ -332,18 +331,18 @@ unfolding is_eof_in file_data_in bit_in byte id_width_in seq_width_in
 no-eof = refl
 
 eof-said : (h : Head) → Fit h → (x : Option Said) → is_eof_in (bytes_of h x) ≡ true → IsEof x
-eof-said h f none e = absurd (false≢true (sym no-eof ∙ e))
-eof-said h f (some (metadata closure type n a b)) e = absurd (false≢true (sym (eof-seen h (metadata closure type n a b) f) ∙ e))
-eof-said h f (some (file_data o bs)) e = absurd (false≢true (sym (eof-seen h (file_data o bs) f) ∙ e))
-eof-said h f (some (eof c k n)) e = tt
-eof-said h f (some (ack_finished c t)) e = absurd (false≢true (sym (eof-seen h (ack_finished c t) f) ∙ e))
+eof-said h f None e = absurd (false≢true (sym no-eof ∙ e))
+eof-said h f (Some (metadata closure type n a b)) e = absurd (false≢true (sym (eof-seen h (metadata closure type n a b) f) ∙ e))
+eof-said h f (Some (file_data o bs)) e = absurd (false≢true (sym (eof-seen h (file_data o bs) f) ∙ e))
+eof-said h f (Some (eof c k n)) e = tt
+eof-said h f (Some (ack_finished c t)) e = absurd (false≢true (sym (eof-seen h (ack_finished c t) f) ∙ e))
 
 -- an EOF of these bytes
 abbrev Sums : State → List ℕ → Option Said → Type 0
-Sums s bs x = (condition : ℕ) × (x ≡ some (eof condition (sum_of s.fixed.checksum bs) (length bs)))
+Sums s bs x = (condition : ℕ) × (x ≡ Some (eof condition (sum_of s.fixed.checksum bs) (length bs)))
 
 module _ (s : State) (lent bs : List ℕ) (g : Good s) (k : (s.file.sum ≡ sum_of s.fixed.checksum bs) × (s.file.progress ≡ length bs)) where
-  sent_sums : (c : ℕ) → Sums s bs (some (eof_of_sent s c))
+  sent_sums : (c : ℕ) → Sums s bs (Some (eof_of_sent s c))
   sent_sums c = (c, rw (k.0, k.1) refl)
 
   fault_sums : (c : ℕ) (d : Due) → Declared s c d → IsEof (named s lent d) → Sums s bs (named s lent d)
@@ -384,10 +383,10 @@ sum_of_the_sent n cs p lent expired out b a e = go (is_idle s.step) refl
     written : pdu_of s lent expired out ≡ bytes_of s.fixed.head x
     written = due_says.written s lent expired out (λ _. g.queue) a
 
-    read : Sums s bs x → (condition : ℕ) × (decode (pdu_of s lent expired out) ≡ some (record { head = s.fixed.head; said = eof condition (sum_of s.fixed.checksum bs) (length bs) }))
+    read : Sums s bs x → (condition : ℕ) × (decode (pdu_of s lent expired out) ≡ Some (record { head = s.fixed.head; said = eof condition (sum_of s.fixed.checksum bs) (length bs) }))
     read y = (y.0, due_says.says s lent expired out g b a ∙ ap (with_head s.fixed.head) y.1)
 
-    go : (i : Bool) → is_idle s.step ≡ i → (condition : ℕ) × (decode (pdu_of s lent expired out) ≡ some (record { head = s.fixed.head; said = eof condition (sum_of s.fixed.checksum bs) (length bs) }))
+    go : (i : Bool) → is_idle s.step ≡ i → (condition : ℕ) × (decode (pdu_of s lent expired out) ≡ Some (record { head = s.fixed.head; said = eof condition (sum_of s.fixed.checksum bs) (length bs) }))
     go true i =
         let d = idle-due s expired g ((tells_idle s.step).yes i) in
         absurd (false≢true (sym no-eof ∙ ap (λ (d : Due). is_eof_in (bytes_of s.fixed.head (named s lent d))) (sym d) ∙ ap is_eof_in (sym written) ∙ e))
@@ -418,12 +417,12 @@ module _ (file : List ℕ) where
   unfolding put_outcome
   put-lent s c q source destination S n l = go (put_answer s c q source destination S) n
     where
-      go : (a : Answer) → let r = by_answer s (put_state s c q source destination S) a in ¬ (unless r.answer began ≡ began) → Lent file r.state
-      go Accepted n = absurd (n refl)
-      go (Refused k) n = l
+      go : (a : Result ⊤ Refusal) → let r = by_answer s (put_state s c q source destination S) a in ¬ (unless r.answer began ≡ began) → Lent file r.state
+      go (Ok tt) n = absurd (n refl)
+      go (Err k) n = l
 
   module _ (s : State) (g : Good s) (lent : List ℕ) (expired : Bool) (out : List ℕ) (f : LendsIn file (step lent expired out)) where
-    accepted-lent : (step_outcome s lent expired (length out)).answer ≡ Accepted → Lent file s → Lent file (after_of s lent (due_of s expired))
+    accepted-lent : (step_outcome s lent expired (length out)).answer ≡ Ok tt → Lent file s → Lent file (after_of s lent (due_of s expired))
     accepted-lent a (inl e) = inl (idle-rests s lent expired g e)
     accepted-lent a (inr k) = go (is_idle s.step) refl
       where
@@ -458,8 +457,8 @@ module _ (file : List ℕ) where
   -- ---- what was said before is said
 
   module _ (s : State) (g : Good s) (k : (s.fixed.size ≡ length file) × OfFile file s) where
-    sent_before : (c : ℕ) → some (eof_of_sent s c) ≡ some (eof_over s file c)
-    sent_before c = ap (λ (v : ℕ). some (eof c v s.file.progress)) k.1
+    sent_before : (c : ℕ) → Some (eof_of_sent s c) ≡ Some (eof_over s file c)
+    sent_before c = ap (λ (v : ℕ). Some (eof c v s.file.progress)) k.1
 
     fault_before : (c : ℕ) (d : Due) → Declared s c d → named s file d ≡ named_before s file d
     fault_before c _ (cancels e a) = sent_before c
@@ -475,7 +474,7 @@ module _ (file : List ℕ) where
     due_before expired _ (item_5 f e) =
         let p : At SendingEof s = subst (λ (j : TransactionStep). At j s) e g.here in
         let z : take s.file.progress file ≡ file = take_all s.file.progress file (let a = p.2 in let b = k.0 in omega arith) in
-        ap (λ (v : ℕ). some (eof 0 v s.fixed.size)) (k.1 ∙ ap (sum_of s.fixed.checksum) z)
+        ap (λ (v : ℕ). Some (eof 0 v s.fixed.size)) (k.1 ∙ ap (sum_of s.fixed.checksum) z)
     due_before expired _ (item_6_again f e x l) = sent_before s.marks.condition
     due_before expired d (item_6_fault f e x l q) = fault_before 1 d q
     due_before expired d (item_7 f e u x q) = fault_before 10 d q
@@ -487,13 +486,13 @@ module _ (file : List ℕ) where
   said_before s expired g (inr k) = due_before s g k expired (due_of s expired) (due_applies s expired)
 
 -- an accepted put leaves a good state, whatever it found
-started-good : (h : State) (c : LocalEntityConfig) (q : PutRequest) (source destination : List ℕ) (S : ℕ) → S < 2 ^ 64 → (put_outcome h c q source destination S).answer ≡ Accepted
+started-good : (h : State) (c : LocalEntityConfig) (q : PutRequest) (source destination : List ℕ) (S : ℕ) → S < 2 ^ 64 → (put_outcome h c q source destination S).answer ≡ Ok tt
     → Good (put_outcome h c q source destination S).state
 unfolding put_outcome
 started-good h c q source destination S l a =
     let t = put_state h c q source destination S in
     let x = put_answer h c q source destination S in
-    let e : x ≡ Accepted = sym (answer-by h t x) ∙ a in
+    let e : x ≡ Ok tt = sym (answer-by h t x) ∙ a in
     subst Good (sym (state-by h t x e)) (put-good h c q source destination S l e)
 
 pub same_link : SameLink

@@ -1,26 +1,21 @@
 -- Request R-1, "Fill one radio frame per call": a burst makes up to sixteen steps, their PDUs laid end to end in one out buffer.
 -- Assumes nothing.
-use Rattle.std.specs.Prelude.{Bool, false, List, [], ◌∷◌, ◌++◌, map, ℕ, zero, suc, ◌-◌, eqb, ltb, length, take, drop, replicate}
+use Rattle.std.specs.Prelude.{Bool, false, List, [], ◌∷◌, ◌++◌, map, ℕ, zero, suc, ◌-◌, eqb, ltb, length, take, drop, replicate, Err, None, Ok, Result, ⊤}
 use Rattle.basis.specs.Pick.{pick}
+use Rattle.rules.specs.Answers.{Stepped, Bursted}
 use Rattle.rules.specs.Step.{step_outcome, step_bytes}
 use Rattle.types.specs.declared.State.{State}
 use Rattle.types.specs.declared.Events.{Events}
-use Rattle.types.specs.declared.FaultEvent.TheVariants.{NoFault}
-use Rattle.types.specs.declared.FinishedEvent.TheVariants.{NotFinished}
-use Rattle.types.specs.declared.TimerEvent.TheVariants.{NoTimer}
 use Rattle.types.specs.declared.Refusal.TheVariants.{BurstTooLong}
-use Rattle.types.specs.declared.Answer.{Answer}
-use Rattle.types.specs.declared.Answer.TheVariants.{Accepted, Refused}
-use Rattle.types.specs.declared.Stepped.{Stepped}
+use Rattle.types.specs.declared.Refusal.{Refusal}
 use Rattle.types.specs.declared.Made.{Made}
-use Rattle.types.specs.declared.Bursted.{Bursted}
 
 -- ---- its steps
 
 -- a step that is refused is not made
-abbrev pub if_made : Answer → List Stepped → List Stepped
-if_made Accepted rs = rs
-if_made (Refused k) rs = []
+abbrev pub if_made : Result ⊤ Refusal → List Stepped → List Stepped
+if_made (Ok tt) rs = rs
+if_made (Err k) rs = []
 
 -- At most n steps from s on: "The expiry flag holds for the first step only. A step that emits nothing is made and ends the burst; one that OutTooSmall would refuse for the rest of the buffer is not made."
 unfoldable pub steps_of : ℕ → State → List ℕ → Bool → ℕ → List Stepped
@@ -40,8 +35,8 @@ laid_of (suc n) s file expired out =
 -- ---- the answer
 
 -- "a count from 0 to 16 (above, refusal 32, tested first)"; "If the first step is refused, the burst gives that refusal"; a count of 0 has no first step
-unfoldable pub burst_answer : State → List ℕ → Bool → ℕ → ℕ → Answer
-burst_answer s file expired count room = pick (ltb 16 count) (Refused BurstTooLong) (pick (eqb count 0) Accepted (step_outcome s file expired room).answer)
+unfoldable pub burst_answer : State → List ℕ → Bool → ℕ → ℕ → Result ⊤ Refusal
+burst_answer s file expired count room = pick (ltb 16 count) (Err BurstTooLong) (pick (eqb count 0) (Ok tt) (step_outcome s file expired room).answer)
 
 -- the number of steps asked for; a burst that is too long makes none
 unfoldable pub allowed : ℕ → ℕ
@@ -54,7 +49,7 @@ made_of r = record { length = r.length; events = r.events }
 
 -- a place without a step
 abbrev pub no_events : Events
-no_events = record { id = ((0, 0), (0, 0)); transaction = false; eofsent = false; fault = NoFault; finished = NotFinished; timer = NoTimer }
+no_events = record { id = ((0, 0), (0, 0)); transaction = false; eofsent = false; fault = None; finished = None; timer = None }
 
 abbrev pub none_made : Made
 none_made = record { length = 0; events = no_events }

@@ -1,7 +1,7 @@
 -- What a burst promises, on steps alone: which steps it makes, how many, and that it counts as these in every run. Proof: proofs/Bursts.antt.
 -- Its refusals stand in Exactly.antt. What the signs mean stands at the top of Calls.antt.
 -- Assumes nothing.
-use Rattle.std.specs.Prelude.{◌≡◌, ◌⊎◌, Bool, false, List, [], ◌∷◌, ◌++◌, map, ℕ, ◌+◌, ◌-◌, ◌<◌, ◌≤◌, length, take, drop, replicate}
+use Rattle.std.specs.Prelude.{◌≡◌, ◌⊎◌, Bool, false, List, [], ◌∷◌, ◌++◌, map, ℕ, ◌+◌, ◌-◌, ◌<◌, ◌≤◌, length, take, drop, replicate, Ok}
 use Rattle.rules.specs.Refusals.{answer_no}
 use Rattle.rules.specs.Step.{step_outcome, step_bytes}
 use Rattle.rules.specs.Burst.{none_made, burst_outcome, burst_bytes}
@@ -9,7 +9,6 @@ use Rattle.rules.specs.Good.{Good}
 use Rattle.rules.specs.Runs.{Single, step, Call, one, burst, made_in, trace, behind}
 use Rattle.types.specs.declared.State.{State}
 use Rattle.types.specs.declared.Made.{Made}
-use Rattle.types.specs.declared.Answer.TheVariants.{Accepted}
 
 -- ---- the same steps one by one
 
@@ -19,7 +18,7 @@ abbrev pub OneByOne : List ℕ → List Made → Bool → State → (out : List 
 OneByOne file [] expired s out t laid = (t ≡ s) × (laid ≡ out)
 OneByOne file (m ∷ ms) expired s out t laid =
     let r = step_outcome s file expired (length out) in
-    (r.answer ≡ Accepted)
+    (r.answer ≡ Ok tt)
     × (m.length ≡ r.length)
     × (m.events ≡ r.events)
     × (rest : List ℕ)
@@ -70,7 +69,7 @@ pub record Burst (s : State) (file : List ℕ) (expired : Bool) (count : ℕ) (o
 abbrev pub BurstIsSteps : Type 0
 BurstIsSteps =
     (s : State) (file : List ℕ) (expired : Bool) (count : ℕ) (out : List ℕ)
-    → (burst_outcome s file expired count (length out)).answer ≡ Accepted → Burst s file expired count out
+    → (burst_outcome s file expired count (length out)).answer ≡ Ok tt → Burst s file expired count out
 
 -- PROMISE burst_not_changed: behind a step of a burst FileChanged (30) refuses none, in no state that calls reach; so what ends a burst there is OutTooSmall.
 abbrev pub BurstNotChanged : Type 0

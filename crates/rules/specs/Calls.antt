@@ -3,22 +3,35 @@
 -- if Q"; `⊥` what never holds; `a ≡ b` "a equals b". `x.f` is the field f of x, `p.0` and `p.1` are the parts of a pair. `[]` is the empty list, `x ∷ l` one that begins with x, `l ++ m` both joined, `map f l` f of
 -- each. In a contract `result` is what the function returns, `x.now` are the bytes behind x, and `x.old` and `x.new` those when the call begins and when it ends.
 -- Assumes nothing.
-use Rattle.std.specs.Prelude.{◌≡◌, Bool, List, ℕ, length}
+use Rattle.std.specs.Prelude.{◌≡◌, Bool, List, ℕ, length, replicate, Result, Ok, Err}
+use Rattle.rules.specs.Answers.{Done, Delivered, Stepped, Cancelled, Bursted}
 use Rattle.rules.specs.Put.{put_outcome}
 use Rattle.rules.specs.Deliver.{deliver_outcome}
-use Rattle.rules.specs.Step.{step_outcome, step_bytes}
+use Rattle.rules.specs.Step.{quiet, step_outcome, step_bytes}
 use Rattle.rules.specs.Cancel.{cancel_outcome, reset_outcome, new_outcome}
-use Rattle.rules.specs.Burst.{burst_outcome, burst_bytes}
+use Rattle.rules.specs.Burst.{none_made, burst_outcome, burst_bytes}
 use Rattle.types.specs.declared.EntityId.{EntityId}
 use Rattle.types.specs.declared.TransactionSeqNum.{TransactionSeqNum}
 use Rattle.types.specs.declared.LocalEntityConfig.{LocalEntityConfig}
 use Rattle.types.specs.declared.PutRequest.{PutRequest}
 use Rattle.types.specs.declared.State.{State}
-use Rattle.types.specs.declared.Done.{Done}
-use Rattle.types.specs.declared.Delivered.{Delivered}
-use Rattle.types.specs.declared.Stepped.{Stepped}
-use Rattle.types.specs.declared.Cancelled.{Cancelled}
-use Rattle.types.specs.declared.Bursted.{Bursted}
+use Rattle.types.specs.declared.Refusal.{Refusal}
+use Rattle.types.specs.declared.Made.{Made}
+use Rattle.types.specs.declared.Burst.{Burst}
+
+-- ---- what a call returns beside the state before it and the state behind it, as one record
+
+-- a refusal has no PDU and no events
+abbrev pub stepped_as : State → Result Made Refusal → State → Stepped
+stepped_as before (Ok m) after = record { answer = Ok tt; length = m.length; events = m.events; state = after }
+stepped_as before (Err k) after = record { answer = Err k; length = 0; events = quiet before; state = after }
+
+-- a refusal has made no step
+abbrev pub bursted_as : Result Burst Refusal → State → Bursted
+bursted_as (Ok b) after = record { answer = Ok tt; count = b.count; steps = b.steps; state = after }
+bursted_as (Err k) after = record { answer = Err k; count = 0; steps = replicate 16 none_made; state = after }
+
+-- ---- the relations
 
 -- a put of S bytes: the answer and the whole new state
 abbrev pub PutMeets : State → LocalEntityConfig → PutRequest → List ℕ → List ℕ → ℕ → Done → Type 0

@@ -2,13 +2,13 @@
 -- Assumes nothing.
 use Rattle.std.specs.Prelude.{Bool, true, false, eqb}
 use Rattle.basis.specs.Pick.{pick, ◌and◌, not}
+use Rattle.rules.specs.Answers.{Cancelled}
 use Rattle.rules.specs.States.{with_queue, with_marks, marked, empty_queue, idle}
 use Rattle.types.specs.declared.EntityId.{EntityId}
 use Rattle.types.specs.declared.TransactionSeqNum.{TransactionSeqNum}
 use Rattle.types.specs.declared.State.{State}
 use Rattle.types.specs.declared.TransactionStep.{TransactionStep}
 use Rattle.types.specs.declared.TransactionStep.TheVariants.{Idle, SendingMetadata, SendingFileData, SendingEof, WaitingForEofAck, WaitingForFinished, Closing}
-use Rattle.types.specs.declared.Cancelled.{Cancelled}
 
 -- "Cancel answers no, changing nothing, when Idle, closing or already cancelled, or when the source id or number given differs in value"
 abbrev pub can_cancel : TransactionStep → Bool

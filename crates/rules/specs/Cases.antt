@@ -1,7 +1,7 @@
 -- "Byte cases": document 01's M1 to M12 about the definitions together, and those of requests R-1, R-2 and R-4, one statement over the list. Proof: proofs/Cases.antt.
 -- Assumes nothing.
-use Rattle.std.specs.Prelude.{◌≡◌, Bool, true, false, List, [], ◌∷◌, ◌++◌, map, ℕ, length, replicate, drop}
-use Rattle.std.proofs.Math.Option.{none, some}
+use Rattle.std.specs.Prelude.{◌≡◌, Bool, true, false, List, [], ◌∷◌, ◌++◌, map, ℕ, length, replicate, drop, None, Option, Some}
+use Rattle.rules.specs.Answers.{Bursted}
 use Rattle.rules.specs.Refusals.{answer_no}
 use Rattle.rules.specs.Put.{no_remote, put_outcome}
 use Rattle.rules.specs.Deliver.{deliver_outcome}
@@ -11,13 +11,10 @@ use Rattle.rules.specs.Burst.{burst_outcome, burst_bytes}
 use Rattle.rules.specs.Runs.{Call, one, burst, put, deliver, step, cancel, Shown, went, made_in, trace, behind}
 use Rattle.types.specs.declared.RemoteEntityConfig.{RemoteEntityConfig}
 use Rattle.types.specs.declared.LocalEntityConfig.{LocalEntityConfig}
-use Rattle.types.specs.declared.Choice.TheVariants.{Default}
 use Rattle.types.specs.declared.PutRequest.{PutRequest}
 use Rattle.types.specs.declared.State.{State}
 use Rattle.types.specs.declared.Made.{Made}
-use Rattle.types.specs.declared.Bursted.{Bursted}
-use Rattle.types.specs.declared.FaultEvent.{FaultEvent}
-use Rattle.types.specs.declared.FaultEvent.TheVariants.{NoFault, Fault}
+use Rattle.types.specs.declared.Fault.{Fault}
 
 -- ---- "Ids 1 and 2, number 7, widths 1, .. no closure, no CRC, modular, names "a" and "b", file 41 42 43 44 45, L = 4"
 
@@ -39,7 +36,7 @@ unfoldable pub config : RemoteEntityConfig → LocalEntityConfig
 config r = record { id = (1, 1); actions = replicate 16 1; eofsent = true; finished = true; remotes = r ∷ replicate 7 no_remote; count = 1 }
 
 unfoldable pub request : PutRequest
-request = record { destination = (1, 2); unacknowledged = Default; closure = Default }
+request = record { destination = (1, 2); unacknowledged = None; closure = None }
 
 -- "unacknowledged, .. packet maximum 17", and the same acknowledged
 abbrev pub unack_remote : RemoteEntityConfig
@@ -115,7 +112,7 @@ unfoldable pub expired_lengths : List Call → List ℕ
 expired_lengths cs = lengths_of (burst_outcome (state_behind (remote false 17 2) cs) file true 16 64)
 
 -- the fault event of the next step, made with the expiry flag
-unfoldable pub next_fault : RemoteEntityConfig → List Call → FaultEvent
+unfoldable pub next_fault : RemoteEntityConfig → List Call → Option Fault
 next_fault r cs = (step_outcome (state_behind r cs) file true 17).events.fault
 
 -- the number that a put answers, and the large flag of its header
@@ -179,7 +176,7 @@ abbrev pub m4 : List ℕ
 m4 = 0x24 ∷ 0x00 ∷ 0x0A ∷ 0x00 ∷ 0x01 ∷ 0x07 ∷ 0x02 ∷ 0x04 ∷ 0x00 ∷ 0x86 ∷ 0x42 ∷ 0x43 ∷ 0x44 ∷ 0x00 ∷ 0x00 ∷ 0x00 ∷ 0x05 ∷ []
 
 abbrev pub whole_stream : List Shown
-whole_stream = went (some m1) ∷ went (some m2) ∷ went (some m3) ∷ went (some m4) ∷ went none ∷ []
+whole_stream = went (Some m1) ∷ went (Some m2) ∷ went (Some m3) ∷ went (Some m4) ∷ went None ∷ []
 
 -- ---- the cases
 
@@ -207,44 +204,44 @@ byte_cases =
     ∷ (expired_lengths (step_calls 4 file) gives 17 ∷ 0 ∷ [])
     -- R-2: "the checksum is that of the bytes sent": another file lent behind M2, then that file to the end
     ∷ (run 2 unack_remote file (step_calls 2 file ++ step_calls 2 other) gives
-    (went (some (0x34 ∷ 0x00 ∷ 0x05 ∷ 0x00 ∷ 0x01 ∷ 0x07 ∷ 0x02 ∷ 0x00 ∷ 0x00 ∷ 0x00 ∷ 0x04 ∷ 0x46 ∷ []))
-    ∷ went (some (0x24 ∷ 0x00 ∷ 0x0A ∷ 0x00 ∷ 0x01 ∷ 0x07 ∷ 0x02 ∷ 0x04 ∷ 0x00 ∷ 0x87 ∷ 0x42 ∷ 0x43 ∷ 0x44 ∷ 0x00 ∷ 0x00 ∷ 0x00 ∷ 0x05 ∷ []))
+    (went (Some (0x34 ∷ 0x00 ∷ 0x05 ∷ 0x00 ∷ 0x01 ∷ 0x07 ∷ 0x02 ∷ 0x00 ∷ 0x00 ∷ 0x00 ∷ 0x04 ∷ 0x46 ∷ []))
+    ∷ went (Some (0x24 ∷ 0x00 ∷ 0x0A ∷ 0x00 ∷ 0x01 ∷ 0x07 ∷ 0x02 ∷ 0x04 ∷ 0x00 ∷ 0x87 ∷ 0x42 ∷ 0x43 ∷ 0x44 ∷ 0x00 ∷ 0x00 ∷ 0x00 ∷ 0x05 ∷ []))
     ∷ []))
     -- R-2: only for the EOF: M4; and a cancel behind M2 has the sum of the four bytes that left
-    ∷ (run 3 unack_remote file (step_calls 3 file ++ step_calls 1 other) gives (went (some m4) ∷ []))
+    ∷ (run 3 unack_remote file (step_calls 3 file ++ step_calls 1 other) gives (went (Some m4) ∷ []))
     ∷ (run 3 unack_remote file (step_calls 2 file ++ one (cancel (1, 1) (1, 7)) ∷ step_calls 1 other) gives
-    (went (some (0x24 ∷ 0x00 ∷ 0x0A ∷ 0x00 ∷ 0x01 ∷ 0x07 ∷ 0x02 ∷ 0x04 ∷ 0xF0 ∷ 0x41 ∷ 0x42 ∷ 0x43 ∷ 0x44 ∷ 0x00 ∷ 0x00 ∷ 0x00 ∷ 0x04 ∷ []))
+    (went (Some (0x24 ∷ 0x00 ∷ 0x0A ∷ 0x00 ∷ 0x01 ∷ 0x07 ∷ 0x02 ∷ 0x04 ∷ 0xF0 ∷ 0x41 ∷ 0x42 ∷ 0x43 ∷ 0x44 ∷ 0x00 ∷ 0x00 ∷ 0x00 ∷ 0x04 ∷ []))
     ∷ []))
     -- R-2: "a progress that is no multiple of four": pieces of 3 and of 1, and M4 behind them
-    ∷ (run 3 (cut_to 3 unack_remote) file (step_calls 4 file) gives (went (some m4) ∷ []))
-    ∷ (run 6 (cut_to 1 unack_remote) file (step_calls 7 file) gives (went (some m4) ∷ []))
+    ∷ (run 3 (cut_to 3 unack_remote) file (step_calls 4 file) gives (went (Some m4) ∷ []))
+    ∷ (run 6 (cut_to 1 unack_remote) file (step_calls 7 file) gives (went (Some m4) ∷ []))
     -- M5: "packet maximum 16: PacketLimit"; 17 is accepted
     ∷ (put_no (remote true 16 1) a b gives 8)
     ∷ (put_no (remote true 17 1) a b gives 0)
     -- M6: "S = 0: EOF at step 2"
     ∷ (run 1 unack_remote [] (step_calls 2 []) gives
-    (went (some (0x24 ∷ 0x00 ∷ 0x0A ∷ 0x00 ∷ 0x01 ∷ 0x07 ∷ 0x02 ∷ 0x04 ∷ 0x00 ∷ 0x00 ∷ 0x00 ∷ 0x00 ∷ 0x00 ∷ 0x00 ∷ 0x00 ∷ 0x00 ∷ 0x00 ∷ []))
+    (went (Some (0x24 ∷ 0x00 ∷ 0x0A ∷ 0x00 ∷ 0x01 ∷ 0x07 ∷ 0x02 ∷ 0x04 ∷ 0x00 ∷ 0x00 ∷ 0x00 ∷ 0x00 ∷ 0x00 ∷ 0x00 ∷ 0x00 ∷ 0x00 ∷ 0x00 ∷ []))
     ∷ []))
     -- M7: "sizes 4,294,967,295 and 4,294,967,296: Normal, Large"
     ∷ (large 4294967295 gives false)
     ∷ (large 4294967296 gives true)
     -- M8: "acknowledged, ACK(Finished, no error)"
     ∷ (run 6 ack_remote file (step_calls 4 file ++ ack_of_eof ∷ finished_pdu ∷ step_calls 2 file) gives
-    (went (some (0x20 ∷ 0x00 ∷ 0x03 ∷ 0x00 ∷ 0x01 ∷ 0x07 ∷ 0x02 ∷ 0x06 ∷ 0x51 ∷ 0x01 ∷ []))
-    ∷ went none
+    (went (Some (0x20 ∷ 0x00 ∷ 0x03 ∷ 0x00 ∷ 0x01 ∷ 0x07 ∷ 0x02 ∷ 0x06 ∷ 0x51 ∷ 0x01 ∷ []))
+    ∷ went None
     ∷ []))
     -- M9: "acknowledged, after all data, a NAK of pairs (0, 4), (0, 0) owes two": data, metadata; then the EOF
     ∷ (pending_count ack_remote (step_calls 3 file ++ nak04and00 ∷ []) gives 2)
     ∷ (run 4 ack_remote file (step_calls 3 file ++ nak04and00 ∷ step_calls 3 file) gives
-    (went (some (0x30 ∷ 0x00 ∷ 0x08 ∷ 0x00 ∷ 0x01 ∷ 0x07 ∷ 0x02 ∷ 0x00 ∷ 0x00 ∷ 0x00 ∷ 0x00 ∷ 0x41 ∷ 0x42 ∷ 0x43 ∷ 0x44 ∷ []))
-    ∷ went (some (0x20 ∷ 0x00 ∷ 0x0A ∷ 0x00 ∷ 0x01 ∷ 0x07 ∷ 0x02 ∷ 0x07 ∷ 0x00 ∷ 0x00 ∷ 0x00 ∷ 0x00 ∷ 0x05 ∷ 0x01 ∷ 0x61 ∷ 0x01 ∷ 0x62 ∷ []))
-    ∷ went (some (0x20 ∷ 0x00 ∷ 0x0A ∷ 0x00 ∷ 0x01 ∷ 0x07 ∷ 0x02 ∷ 0x04 ∷ 0x00 ∷ 0x86 ∷ 0x42 ∷ 0x43 ∷ 0x44 ∷ 0x00 ∷ 0x00 ∷ 0x00 ∷ 0x05 ∷ []))
+    (went (Some (0x30 ∷ 0x00 ∷ 0x08 ∷ 0x00 ∷ 0x01 ∷ 0x07 ∷ 0x02 ∷ 0x00 ∷ 0x00 ∷ 0x00 ∷ 0x00 ∷ 0x41 ∷ 0x42 ∷ 0x43 ∷ 0x44 ∷ []))
+    ∷ went (Some (0x20 ∷ 0x00 ∷ 0x0A ∷ 0x00 ∷ 0x01 ∷ 0x07 ∷ 0x02 ∷ 0x07 ∷ 0x00 ∷ 0x00 ∷ 0x00 ∷ 0x00 ∷ 0x05 ∷ 0x01 ∷ 0x61 ∷ 0x01 ∷ 0x62 ∷ []))
+    ∷ went (Some (0x20 ∷ 0x00 ∷ 0x0A ∷ 0x00 ∷ 0x01 ∷ 0x07 ∷ 0x02 ∷ 0x04 ∷ 0x00 ∷ 0x86 ∷ 0x42 ∷ 0x43 ∷ 0x44 ∷ 0x00 ∷ 0x00 ∷ 0x00 ∷ 0x05 ∷ []))
     ∷ []))
     -- M10: "pair (0, 5) owes lengths 4 and 1"; then the EOF
     ∷ (run 4 ack_remote file (step_calls 3 file ++ nak05 ∷ step_calls 3 file) gives
-    (went (some (0x30 ∷ 0x00 ∷ 0x08 ∷ 0x00 ∷ 0x01 ∷ 0x07 ∷ 0x02 ∷ 0x00 ∷ 0x00 ∷ 0x00 ∷ 0x00 ∷ 0x41 ∷ 0x42 ∷ 0x43 ∷ 0x44 ∷ []))
-    ∷ went (some (0x30 ∷ 0x00 ∷ 0x05 ∷ 0x00 ∷ 0x01 ∷ 0x07 ∷ 0x02 ∷ 0x00 ∷ 0x00 ∷ 0x00 ∷ 0x04 ∷ 0x45 ∷ []))
-    ∷ went (some (0x20 ∷ 0x00 ∷ 0x0A ∷ 0x00 ∷ 0x01 ∷ 0x07 ∷ 0x02 ∷ 0x04 ∷ 0x00 ∷ 0x86 ∷ 0x42 ∷ 0x43 ∷ 0x44 ∷ 0x00 ∷ 0x00 ∷ 0x00 ∷ 0x05 ∷ []))
+    (went (Some (0x30 ∷ 0x00 ∷ 0x08 ∷ 0x00 ∷ 0x01 ∷ 0x07 ∷ 0x02 ∷ 0x00 ∷ 0x00 ∷ 0x00 ∷ 0x00 ∷ 0x41 ∷ 0x42 ∷ 0x43 ∷ 0x44 ∷ []))
+    ∷ went (Some (0x30 ∷ 0x00 ∷ 0x05 ∷ 0x00 ∷ 0x01 ∷ 0x07 ∷ 0x02 ∷ 0x00 ∷ 0x00 ∷ 0x00 ∷ 0x04 ∷ 0x45 ∷ []))
+    ∷ went (Some (0x20 ∷ 0x00 ∷ 0x0A ∷ 0x00 ∷ 0x01 ∷ 0x07 ∷ 0x02 ∷ 0x04 ∷ 0x00 ∷ 0x86 ∷ 0x42 ∷ 0x43 ∷ 0x44 ∷ 0x00 ∷ 0x00 ∷ 0x00 ∷ 0x05 ∷ []))
     ∷ []))
     -- R-4: M9's NAK with fill that looks like a third pair owes two
     ∷ (pending_count ack_remote (step_calls 3 file ++ one (deliver (nak_front 25 ++ pair 0 4 ++ pair 0 0 ++ pair 0 1)) ∷ []) gives 2)
@@ -260,8 +257,8 @@ byte_cases =
     ∷ (next_delivery [] (nak_front 17 ++ pair 0 6 ++ 0x55 ∷ []) gives (24, 24))
     ∷ (next_delivery [] (0x28 ∷ 0x00 ∷ 0x03 ∷ 0x00 ∷ 0x01 ∷ 0x07 ∷ 0x02 ∷ 0x06 ∷ 0x40 ∷ []) gives (20, 0))
     -- M11: "limit 1 faults at first expiry": cancel, condition 1, progress 5; limit 2 doesn't
-    ∷ (next_fault (remote false 17 1) (step_calls 4 file) gives Fault 1 1 5)
-    ∷ (next_fault (remote false 17 2) (step_calls 4 file) gives NoFault)
+    ∷ (next_fault (remote false 17 1) (step_calls 4 file) gives Some (record { action = 1; condition = 1; progress = 5 }))
+    ∷ (next_fault (remote false 17 2) (step_calls 4 file) gives None)
     -- M12: "names C0 80 and ED A0 80 refused"
     ∷ (put_no unack_remote (0xC0 ∷ 0x80 ∷ []) b gives 6)
     ∷ (put_no unack_remote (0xED ∷ 0xA0 ∷ 0x80 ∷ []) b gives 6)

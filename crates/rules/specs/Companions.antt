@@ -1,8 +1,7 @@
 -- What goes with the third demand: steps are not refused, the plain run, progress, telling repairs apart, a used handler, and NAKs answered whole.
 -- Proofs: proofs/Live.antt, proofs/Apart.antt, proofs/Repairs.antt.
 -- Assumes nothing.
-use Rattle.std.specs.Prelude.{◌≡◌, Bool, true, List, [], ◌∷◌, ◌++◌, map, ℕ, ◌+◌, ◌^◌, ◌<◌, ◌≤◌, length, take}
-use Rattle.std.proofs.Math.Option.{Option, none, some}
+use Rattle.std.specs.Prelude.{◌≡◌, Bool, true, List, [], ◌∷◌, ◌++◌, map, ℕ, ◌+◌, ◌^◌, ◌<◌, ◌≤◌, length, take, Ok, Option, None, Some}
 use Rattle.basis.specs.Bytes.{Bytes}
 use Rattle.rules_pdu.specs.Fields.{wire}
 use Rattle.rules_pdu.specs.Numbers.{C}
@@ -22,7 +21,6 @@ use Rattle.types.specs.declared.Head.{Head}
 use Rattle.types.specs.declared.LocalEntityConfig.{LocalEntityConfig}
 use Rattle.types.specs.declared.PutRequest.{PutRequest}
 use Rattle.types.specs.declared.SegmentRequest.{SegmentRequest}
-use Rattle.types.specs.declared.Answer.TheVariants.{Accepted}
 use Rattle.types.specs.declared.State.{State}
 use Rattle.rules.specs.Demand.{transfer_of, meant, planned, lastly}
 
@@ -31,13 +29,13 @@ use Rattle.rules.specs.Demand.{transfer_of, meant, planned, lastly}
 abbrev pub Live : Type 0
 Live =
     (h : State) (c : LocalEntityConfig) (q : PutRequest) (source destination file : List ℕ)
-    → (put_outcome h c q source destination (length file)).answer ≡ Accepted
+    → (put_outcome h c q source destination (length file)).answer ≡ Ok tt
     → (cs : List Call) → Lends file cs
     → let s = (put_outcome h c q source destination (length file)).state in
     BeforeEof (trace cs s)
     → (expired : Bool) (room : ℕ) → (entry_of c q.destination.1).maxpacket ≤ room
-    → ((step_outcome (behind cs s) file expired room).answer ≡ Accepted)
-    × ((count : ℕ) → count ≤ 16 → (burst_outcome (behind cs s) file expired count room).answer ≡ Accepted)
+    → ((step_outcome (behind cs s) file expired room).answer ≡ Ok tt)
+    × ((count : ℕ) → count ≤ 16 → (burst_outcome (behind cs s) file expired count room).answer ≡ Ok tt)
 
 -- steps that lend the file and an out buffer of at least n bytes
 abbrev pub PlainSteps : List ℕ → ℕ → List Call → Type 0
@@ -48,15 +46,15 @@ abbrev pub PlainRun : Type 0
 PlainRun =
     (h : State) (c : LocalEntityConfig) (q : PutRequest) (source destination file : List ℕ)
     → Bytes file → length file < 2 ^ 64
-    → (put_outcome h c q source destination (length file)).answer ≡ Accepted
+    → (put_outcome h c q source destination (length file)).answer ≡ Ok tt
     → let w = transfer_of c q h.number source destination file in
     (cs : List Call) → PlainSteps file (entry_of c q.destination.1).maxpacket cs → length cs ≡ 2 + ceil (length file) w.segment
     → map decode (emitted (trace cs (put_outcome h c q source destination (length file)).state)) ≡ map (meant w) (planned w ++ lastly w ∷ [])
 
 -- the number of bytes of file data in PDUs
 abbrev pub data_length : Option (ℕ × List ℕ) → ℕ
-data_length none = 0
-data_length (some d) = length d.1
+data_length None = 0
+data_length (Some d) = length d.1
 
 unfoldable pub carried : List (List ℕ) → ℕ
 carried [] = 0
@@ -67,7 +65,7 @@ abbrev pub ProgressMade : Type 0
 ProgressMade =
     (h : State) (c : LocalEntityConfig) (q : PutRequest) (source destination file : List ℕ)
     → Bytes file → length file < 2 ^ 64
-    → (put_outcome h c q source destination (length file)).answer ≡ Accepted
+    → (put_outcome h c q source destination (length file)).answer ≡ Ok tt
     → (cs : List Call) → Lends file cs
     → let s = (put_outcome h c q source destination (length file)).state in
     let w = transfer_of c q h.number source destination file in
@@ -76,13 +74,13 @@ ProgressMade =
 
 -- if there is file data, it begins at the mark
 abbrev pub BeginsAt : ℕ → Option (ℕ × List ℕ) → Type 0
-BeginsAt mark none = Unit {0}
-BeginsAt mark (some d) = d.0 ≡ mark
+BeginsAt mark None = Unit {0}
+BeginsAt mark (Some d) = d.0 ≡ mark
 
 -- if there is file data, it lies below the mark
 abbrev pub LiesBelow : ℕ → Option (ℕ × List ℕ) → Type 0
-LiesBelow mark none = Unit {0}
-LiesBelow mark (some d) = (d.0 < mark) × (d.0 + length d.1 ≤ mark)
+LiesBelow mark None = Unit {0}
+LiesBelow mark (Some d) = (d.0 < mark) × (d.0 + length d.1 ≤ mark)
 
 -- The mark is the number of first-pass bytes that have left: the first pass begins at it and moves it, a repair lies below it.
 abbrev pub Apart : ℕ → List Labelled → Type 0
@@ -95,7 +93,7 @@ abbrev pub ToldApart : Type 0
 ToldApart =
     (h : State) (c : LocalEntityConfig) (q : PutRequest) (source destination file : List ℕ)
     → Bytes file → length file < 2 ^ 64
-    → (put_outcome h c q source destination (length file)).answer ≡ Accepted
+    → (put_outcome h c q source destination (length file)).answer ≡ Ok tt
     → (cs : List Call) → Lends file cs
     → let s = (put_outcome h c q source destination (length file)).state in
     let w = transfer_of c q h.number source destination file in
@@ -111,7 +109,7 @@ SecondPut =
     → let used = put_outcome h c q source destination S in
     let fresh = put_outcome (new_outcome h.number) c q source destination S in
     (used.answer ≡ fresh.answer)
-    × (used.answer ≡ Accepted → (used.state ≡ fresh.state) × ((cs : List Call) → trace cs used.state ≡ trace cs fresh.state))
+    × (used.answer ≡ Ok tt → (used.state ≡ fresh.state) × ((cs : List Call) → trace cs used.state ≡ trace cs fresh.state))
 
 -- PROMISE nak_asks: of a NAK that a peer writes by the layouts, with anything behind it, R counts the peer's own requests.
 abbrev pub NakAsks : Type 0
@@ -126,11 +124,11 @@ abbrev pub NakAnswered : Type 0
 NakAnswered =
     (h : State) (c : LocalEntityConfig) (q : PutRequest) (source destination file : List ℕ)
     → Bytes file → length file < 2 ^ 64
-    → (put_outcome h c q source destination (length file)).answer ≡ Accepted
+    → (put_outcome h c q source destination (length file)).answer ≡ Ok tt
     → (cs : List Call) → Lends file cs
     → let s = (put_outcome h c q source destination (length file)).state in
     NoEnd (trace cs s) → NoPut (trace cs s)
-    → (bytes : List ℕ) → 0 < length (requests bytes) → (deliver_outcome (behind cs s) bytes).answer ≡ Accepted
+    → (bytes : List ℕ) → 0 < length (requests bytes) → (deliver_outcome (behind cs s) bytes).answer ≡ Ok tt
     → (ds : List Call) → Lends file ds
     → let t = (deliver_outcome (behind cs s) bytes).state in
     let w = transfer_of c q h.number source destination file in
@@ -144,11 +142,11 @@ abbrev pub BenchSheet : Type 0
 BenchSheet =
     (h : State) (c : LocalEntityConfig) (q : PutRequest) (source destination file : List ℕ)
     → Bytes file → length file < 2 ^ 64
-    → (put_outcome h c q source destination (length file)).answer ≡ Accepted
+    → (put_outcome h c q source destination (length file)).answer ≡ Ok tt
     → (cs : List Call) → Lends file cs
     → let s = (put_outcome h c q source destination (length file)).state in
     NoEnd (trace cs s) → NoPut (trace cs s) → pending (behind cs s).queue ≡ []
-    → (bytes : List ℕ) → length (requests bytes) ≡ 41 → (deliver_outcome (behind cs s) bytes).answer ≡ Accepted
+    → (bytes : List ℕ) → length (requests bytes) ≡ 41 → (deliver_outcome (behind cs s) bytes).answer ≡ Ok tt
     → (ds : List Call) → Lends file ds
     → let t = (deliver_outcome (behind cs s) bytes).state in
     let w = transfer_of c q h.number source destination file in

@@ -1,16 +1,17 @@
 -- Deliver: 20, 21, 23, 22, 24, 25 in this order, or what the table of steps says; and how many of the bytes are the PDU's. What stands behind these is fill.
 -- Assumes nothing.
-use Rattle.std.specs.Prelude.{Bool, true, false, List, [], ◌∷◌, ℕ, ◌+◌, eqb, ltb}
+use Rattle.std.specs.Prelude.{Bool, true, false, List, [], ◌∷◌, ℕ, ◌+◌, eqb, ltb, Err, Ok, Result, ⊤}
 use Rattle.basis.specs.Pick.{pick, ◌and◌, ◌or◌, not}
 use Rattle.rules_pdu.specs.Numbers.{F}
 use Rattle.rules_pdu.specs.Reading.{head_in, well_framed, frame_in, body_in, body_of, requests_from}
+use Rattle.rules.specs.Answers.{Done, Delivered}
 use Rattle.rules.specs.Refusals.{◌when◌, first_of, by_answer}
 use Rattle.rules.specs.States.{is_idle, to_step, with_queue, with_marks, settled, told, empty_queue}
 use Rattle.rules.specs.Queues.{any_invalid, owing, free, push_all}
 use Rattle.types.specs.declared.Head.{Head}
 use Rattle.types.specs.declared.Frame.{Frame}
-use Rattle.types.specs.declared.Body.{Body}
-use Rattle.types.specs.declared.Body.TheVariants.{Malformed as NoPdu, CantProcess, Means}
+use Rattle.types.specs.declared.ReadError.{ReadError}
+use Rattle.types.specs.declared.ReadError.TheVariants.{Malformed as NoPdu, CantProcess}
 use Rattle.types.specs.declared.Meaning.{Meaning}
 use Rattle.types.specs.declared.Meaning.TheVariants.{Finished, AckOfEof, Nak, KeepAlive}
 use Rattle.types.specs.declared.SegmentRequest.{SegmentRequest}
@@ -22,33 +23,31 @@ use Rattle.types.specs.declared.Verdict.{Verdict}
 use Rattle.types.specs.declared.Verdict.TheVariants.{Enqueue, Move, Refuse, NoEffect}
 use Rattle.types.specs.declared.Row.{Row}
 use Rattle.types.specs.declared.Refusal.TheVariants.{Malformed, CantProcessPacketType, UnexpectedPdu, OtherTransaction, InvalidNakPdu, RetransmitFull}
-use Rattle.types.specs.declared.Answer.{Answer}
-use Rattle.types.specs.declared.Done.{Done}
-use Rattle.types.specs.declared.Delivered.{Delivered}
+use Rattle.types.specs.declared.Refusal.{Refusal}
 
 -- ---- what the bytes say
 
 -- no PDU by the layouts, one that can't be processed, or one with a meaning
-unfoldable pub said_in : List ℕ → Body
-said_in bytes = pick (well_framed bytes) (body_of (frame_in bytes) (body_in bytes)) NoPdu
+unfoldable pub said_in : List ℕ → Result Meaning ReadError
+said_in bytes = pick (well_framed bytes) (body_of (frame_in bytes) (body_in bytes)) (Err NoPdu)
 
 -- 20 Malformed: "no PDU by the layouts below"
-abbrev pub is_malformed : Body → Bool
-is_malformed NoPdu = true
-is_malformed CantProcess = false
-is_malformed (Means m) = false
+abbrev pub is_malformed : Result Meaning ReadError → Bool
+is_malformed (Err NoPdu) = true
+is_malformed (Err CantProcess) = false
+is_malformed (Ok m) = false
 
 -- 21 CantProcessPacketType: "file data, EOF, Prompt, Metadata (bodies unread); ACK of Finished; direction towards the receiver"
-abbrev pub cant_process : Body → Bool
-cant_process NoPdu = false
-cant_process CantProcess = true
-cant_process (Means m) = false
+abbrev pub cant_process : Result Meaning ReadError → Bool
+cant_process (Err NoPdu) = false
+cant_process (Err CantProcess) = true
+cant_process (Ok m) = false
 
 -- the meaning of a PDU that is neither; for 20 and 21 no line behind theirs is reached
-abbrev pub meaning_of : Body → Meaning
-meaning_of NoPdu = KeepAlive 0
-meaning_of CantProcess = KeepAlive 0
-meaning_of (Means m) = m
+abbrev pub meaning_of : Result Meaning ReadError → Meaning
+meaning_of (Err NoPdu) = KeepAlive 0
+meaning_of (Err CantProcess) = KeepAlive 0
+meaning_of (Ok m) = m
 
 -- the requests of a NAK of n pairs, from the delivered bytes: they stand behind the code and the scope
 unfoldable pub requests_in : List ℕ → Frame → ℕ → List SegmentRequest
@@ -128,7 +127,7 @@ by_verdict s rs m NoEffect = s
 
 -- ---- the call, over what its bytes said: 20, 21, 23, 22, 24, 25 in this order
 
-unfoldable pub deliver_answer : State → List ℕ → Body → Answer
+unfoldable pub deliver_answer : State → List ℕ → Result Meaning ReadError → Result ⊤ Refusal
 deliver_answer s bytes said =
     let m = meaning_of said in
     let rs = asked bytes (frame_in bytes) m in
@@ -141,13 +140,13 @@ deliver_answer s bytes said =
     ∷ (RetransmitFull when ltb (free s.queue) (owing rs))
     ∷ [])
 
-unfoldable pub deliver_state : State → List ℕ → Body → State
+unfoldable pub deliver_state : State → List ℕ → Result Meaning ReadError → State
 deliver_state s bytes said =
     let m = meaning_of said in
     by_verdict s (asked bytes (frame_in bytes) m) m (verdict_of s.step m)
 
 -- "report how many bytes belong to the PDU .. Deliver reports it too, on refusals as well, 0 when Malformed" (02, R-4)
-unfoldable pub deliver_length : List ℕ → Body → ℕ
+unfoldable pub deliver_length : List ℕ → Result Meaning ReadError → ℕ
 deliver_length bytes said = pick (is_malformed said) 0 (frame_in bytes).length
 
 abbrev pub reporting : ℕ → Done → Delivered

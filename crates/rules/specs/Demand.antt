@@ -1,8 +1,7 @@
 -- The third demand, on bytes: which PDUs leave after an accepted put, in which step the EOF leaves and what it says. Proof: proofs/Demand.antt.
 -- What the signs mean stands at the top of Calls.antt.
 -- Assumes nothing.
-use Rattle.std.specs.Prelude.{◌≡◌, ◌↔◌, Bool, true, false, List, [], ◌∷◌, ◌++◌, map, ℕ, suc, ◌+◌, ◌^◌, ◌<◌, length, take, drop}
-use Rattle.std.proofs.Math.Option.{Option, none, some}
+use Rattle.std.specs.Prelude.{◌≡◌, ◌↔◌, Bool, true, false, List, [], ◌∷◌, ◌++◌, map, ℕ, suc, ◌+◌, ◌^◌, ◌<◌, length, take, drop, Ok, Option, None, Some}
 use Rattle.basis.specs.Pick.{◌and◌}
 use Rattle.basis.specs.Bytes.{Bytes}
 use Rattle.rules_pdu.specs.Numbers.{segment_length}
@@ -19,7 +18,6 @@ use Rattle.types.specs.declared.LocalEntityConfig.{LocalEntityConfig}
 use Rattle.types.specs.declared.PutRequest.{PutRequest}
 use Rattle.types.specs.declared.Sending.{Sending}
 use Rattle.types.specs.declared.Sending.TheVariants.{Nothing as NoPdu, Metadata as MetadataPdu, FileData, Eof as EofPdu, AckFinished}
-use Rattle.types.specs.declared.Answer.TheVariants.{Accepted}
 use Rattle.types.specs.declared.State.{State}
 
 -- ---- the transfer that a put asks for, from the put's arguments alone (n: the sequence number)
@@ -52,11 +50,11 @@ transfer_of c q n source destination file =
 
 -- what a PDU of the transfer says; this is what its bytes have to decode to
 abbrev pub said_of : Transfer → Sending → Option Said
-said_of w NoPdu = none
-said_of w MetadataPdu = some (metadata w.closure w.type (length w.file) w.source w.destination)
-said_of w (FileData o n) = some (file_data o (take n (drop o w.file)))
-said_of w (EofPdu e) = some (eof e.condition e.sum e.size)
-said_of w (AckFinished c) = some (ack_finished c 1)
+said_of w NoPdu = None
+said_of w MetadataPdu = Some (metadata w.closure w.type (length w.file) w.source w.destination)
+said_of w (FileData o n) = Some (file_data o (take n (drop o w.file)))
+said_of w (EofPdu e) = Some (eof e.condition e.sum e.size)
+said_of w (AckFinished c) = Some (ack_finished c 1)
 
 abbrev pub meant : Transfer → Sending → Option Pdu
 meant w d = with_head w.head (said_of w d)
@@ -80,17 +78,17 @@ pub data Tiled : (at : ℕ) → (pdus : List (List ℕ)) → (bytes : List ℕ) 
   end : (at : ℕ) → Tiled at [] []
   piece :
       (at : ℕ) (pdu : List ℕ) (pdus : List (List ℕ)) (d bytes : List ℕ)
-      → file_data_of pdu ≡ some (at, d) → Tiled (at + length d) pdus bytes
+      → file_data_of pdu ≡ Some (at, d) → Tiled (at + length d) pdus bytes
       → Tiled at (pdu ∷ pdus) (d ++ bytes)
   other :
       (at : ℕ) (pdu : List ℕ) (pdus : List (List ℕ)) (bytes : List ℕ)
-      → file_data_of pdu ≡ none → Tiled at pdus bytes
+      → file_data_of pdu ≡ None → Tiled at pdus bytes
       → Tiled at (pdu ∷ pdus) bytes
 
 -- is what a step emitted an EOF
 abbrev pub is_eof : Option (List ℕ) → Bool
-is_eof none = false
-is_eof (some pdu) = is_eof_in pdu
+is_eof None = false
+is_eof (Some pdu) = is_eof_in pdu
 
 -- ---- the demand. es is what the calls since the put have shown, up to any moment before the EOF, a burst's steps one by one; L is w.segment, S is length w.file
 
@@ -125,7 +123,7 @@ pub record AtEof (w : Transfer) (es : List Shown) (pdu : List ℕ) : Type 0 wher
 -- when the next unrefused step emits d: an EOF exactly if the step has that number
 pub record AtStep (w : Transfer) (es : List Shown) (d : Option (List ℕ)) : Type 0 where
   pub when : (is_eof d ≡ true) ↔ (suc (step_count es) ≡ eof_step w es)
-  pub what : is_eof d ≡ true → (pdu : List ℕ) × (d ≡ some pdu) × AtEof w es pdu
+  pub what : is_eof d ≡ true → (pdu : List ℕ) × (d ≡ Some pdu) × AtEof w es pdu
 
 -- PROMISE third_demand: an accepted put of a file on any handler, fresh or used, and then any calls that lend this file, bursts among them. At every moment before which they
 -- have shown no EOF, no cancel and no reset (es: all that is shown up to then; also between two steps of a burst) it is as stands above: so far, and with what is shown
@@ -134,7 +132,7 @@ abbrev pub ThirdDemand : Type 0
 ThirdDemand =
     (h : State) (c : LocalEntityConfig) (q : PutRequest) (source destination file : List ℕ)
     → Bytes file → length file < 2 ^ 64
-    → (put_outcome h c q source destination (length file)).answer ≡ Accepted
+    → (put_outcome h c q source destination (length file)).answer ≡ Ok tt
     → (cs : List Call) → Lends file cs
     → let s = (put_outcome h c q source destination (length file)).state in
     let w = transfer_of c q h.number source destination file in

@@ -1,19 +1,16 @@
 -- A step's events as a list, in document 01's order, and which events each case gives. Proof: proofs/EventCases.antt.
 -- Assumes nothing.
-use Rattle.std.specs.Prelude.{◌≡◌, Bool, true, false, List, [], ◌∷◌, ℕ}
+use Rattle.std.specs.Prelude.{◌≡◌, Bool, true, false, List, [], ◌∷◌, ℕ, None, Option, Some}
 use Rattle.rules.specs.Step.{events_of}
 use Rattle.types.specs.declared.State.{State}
 use Rattle.types.specs.declared.Due.{Due}
 use Rattle.types.specs.declared.Due.TheVariants.{CancelEof, Repair, Metadata, Data, NoErrorEof, EofAgain, FaultCancel, FaultIgnore, FaultAbandon, Close, Nothing}
 use Rattle.types.specs.declared.Events.{Events}
 use Rattle.types.specs.declared.TransactionId.{TransactionId}
-use Rattle.types.specs.declared.FaultEvent.{FaultEvent}
-use Rattle.types.specs.declared.FaultEvent.TheVariants.{NoFault, Fault}
-use Rattle.types.specs.declared.FinishedEvent.{FinishedEvent}
-use Rattle.types.specs.declared.FinishedEvent.TheVariants.{NotFinished, Finished}
+use Rattle.types.specs.declared.Fault.{Fault}
 use Rattle.types.specs.declared.FinishedParams.{FinishedParams}
-use Rattle.types.specs.declared.TimerEvent.{TimerEvent}
-use Rattle.types.specs.declared.TimerEvent.TheVariants.{NoTimer, AckTimer, CheckTimer}
+use Rattle.types.specs.declared.Timer.{Timer}
+use Rattle.types.specs.declared.Timer.TheVariants.{Ack, Check}
 
 -- ---- the list
 
@@ -30,18 +27,18 @@ abbrev pub if_set : Bool → Told → List Told → List Told
 if_set true t later = t ∷ later
 if_set false t later = later
 
-abbrev pub if_fault : TransactionId → FaultEvent → List Told → List Told
-if_fault id NoFault later = later
-if_fault id (Fault action condition progress) later = fault id action condition progress ∷ later
+abbrev pub if_fault : TransactionId → Option Fault → List Told → List Told
+if_fault id None later = later
+if_fault id (Some f) later = fault id f.action f.condition f.progress ∷ later
 
-abbrev pub if_finished : TransactionId → FinishedEvent → List Told → List Told
-if_finished id NotFinished later = later
-if_finished id (Finished params) later = finished id params ∷ later
+abbrev pub if_finished : TransactionId → Option FinishedParams → List Told → List Told
+if_finished id None later = later
+if_finished id (Some params) later = finished id params ∷ later
 
-abbrev pub if_timer : TimerEvent → List Told → List Told
-if_timer NoTimer later = later
-if_timer AckTimer later = ack_timer ∷ later
-if_timer CheckTimer later = check_timer ∷ later
+abbrev pub if_timer : Option Timer → List Told → List Told
+if_timer None later = later
+if_timer (Some Ack) later = ack_timer ∷ later
+if_timer (Some Check) later = check_timer ∷ later
 
 -- "A fault event .. after that step's EOF-sent event; a timer event is last."
 unfoldable pub listed : Events → List Told

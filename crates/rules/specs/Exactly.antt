@@ -1,7 +1,7 @@
 -- Refusals: each number is given exactly when document 01 says so, in its checking order, and a refusal changes nothing.
 -- Proofs: proofs/PutExactly.antt, DeliverExactly.antt, Exactly.antt.
 -- Assumes nothing.
-use Rattle.std.specs.Prelude.{◌≡◌, ◌↔◌, ◌⊎◌, Bool, true, false, List, [], ◌∷◌, ◌++◌, ℕ, suc, ◌+◌, ◌-◌, ◌*◌, ◌/◌, ◌%◌, ◌^◌, ◌<◌, length, take, drop, replicate}
+use Rattle.std.specs.Prelude.{◌≡◌, ◌↔◌, ◌⊎◌, Bool, true, false, List, [], ◌∷◌, ◌++◌, ℕ, suc, ◌+◌, ◌-◌, ◌*◌, ◌/◌, ◌%◌, ◌^◌, ◌<◌, length, take, drop, replicate, None}
 use Rattle.basis.specs.Bytes.{byte, num_at}
 use Rattle.rules_pdu.specs.Numbers.{F}
 use Rattle.rules_leaves.specs.Utf8.{Utf8}
@@ -26,9 +26,6 @@ use Rattle.types.specs.declared.PutRequest.{PutRequest}
 use Rattle.types.specs.declared.State.{State}
 use Rattle.types.specs.declared.TransactionStep.TheVariants.{Idle, SendingMetadata, WaitingForEofAck, WaitingForFinished, Closing}
 use Rattle.types.specs.declared.Events.{Events}
-use Rattle.types.specs.declared.FaultEvent.TheVariants.{NoFault}
-use Rattle.types.specs.declared.FinishedEvent.TheVariants.{NotFinished}
-use Rattle.types.specs.declared.TimerEvent.TheVariants.{NoTimer}
 
 -- ---- a table of refusals
 
@@ -260,7 +257,7 @@ CancelExactly =
 -- ---- "A refusal returns its number and changes nothing."
 
 abbrev pub NoEvents : Events → Type 0
-NoEvents e = (e.transaction ≡ false) × (e.eofsent ≡ false) × (e.fault ≡ NoFault) × (e.finished ≡ NotFinished) × (e.timer ≡ NoTimer)
+NoEvents e = (e.transaction ≡ false) × (e.eofsent ≡ false) × (e.fault ≡ None) × (e.finished ≡ None) × (e.timer ≡ None)
 
 -- PROMISE refusal_changes_nothing: a refused call leaves the state as it was; a refused step gives no event and no PDU, and leaves every byte of the out buffer;
 -- a refused burst has made no step.

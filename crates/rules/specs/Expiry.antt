@@ -1,7 +1,6 @@
 -- An EOF that waits for its ACK is sent again at each expiry, until the limit; then fault 1. Proof: proofs/Expiry.antt.
 -- Assumes nothing.
-use Rattle.std.specs.Prelude.{◌≡◌, Bool, true, false, List, ℕ, ◌+◌, ◌-◌, ◌<◌, ◌≤◌, length, replicate}
-use Rattle.std.proofs.Math.Option.{some}
+use Rattle.std.specs.Prelude.{◌≡◌, Bool, true, false, List, ℕ, ◌+◌, ◌-◌, ◌<◌, ◌≤◌, length, replicate, Some}
 use Rattle.rules_pdu.specs.Layout.{eof, encode}
 use Rattle.rules.specs.States.{with_marks, counted}
 use Rattle.rules.specs.Step.{fault_due, due_of}
@@ -39,7 +38,7 @@ expiries k file out = replicate k (one (step file true out))
 
 pub record CountedFrom (s : State) (file out : List ℕ) : Type 0 where
   -- each of these steps emits that EOF's bytes again
-  pub resends : (k : ℕ) → k ≤ repeats_left s → trace (expiries k file out) s ≡ replicate k (went (some (kept_pdu s)))
+  pub resends : (k : ℕ) → k ≤ repeats_left s → trace (expiries k file out) s ≡ replicate k (went (Some (kept_pdu s)))
   -- and moves the count by one, and nothing else of the state
   pub counts : (k : ℕ) → k ≤ repeats_left s → behind (expiries k file out) s ≡ recounted s (s.marks.count + k)
   -- the step behind the last of them declares fault 1

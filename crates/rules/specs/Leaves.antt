@@ -1,8 +1,7 @@
 -- The state that a call leaves, field by field: Idle, each case of a step, a cancel, a reset, a delivery. The definitions' own helpers are not named here, so that a
 -- mistake in one of them shows. Proofs: proofs/Leaves.antt, Heeded.antt.
 -- Assumes nothing.
-use Rattle.std.specs.Prelude.{◌≡◌, Bool, true, false, List, [], ◌∷◌, ◌++◌, ℕ, ◌+◌, ◌-◌, ◌≤◌, ◌<◌, min, length, take, drop, replicate}
-use Rattle.std.proofs.Math.Option.{Option, some}
+use Rattle.std.specs.Prelude.{◌≡◌, Bool, true, false, List, [], ◌∷◌, ◌++◌, ℕ, ◌+◌, ◌-◌, ◌≤◌, ◌<◌, min, length, take, drop, replicate, Ok, Option, Some}
 use Rattle.basis.specs.Bytes.{Bytes}
 use Rattle.rules_leaves.specs.Checksum.{sum_of}
 use Rattle.rules_pdu.specs.Layout.{Said, eof}
@@ -26,8 +25,6 @@ use Rattle.types.specs.declared.Due.TheVariants.{CancelEof, Repair, Metadata, Da
 use Rattle.types.specs.declared.FinishedParams.{FinishedParams}
 use Rattle.types.specs.declared.Meaning.{Meaning}
 use Rattle.types.specs.declared.Meaning.TheVariants.{Finished, AckOfEof, Nak, KeepAlive}
-use Rattle.types.specs.declared.Body.TheVariants.{Means}
-use Rattle.types.specs.declared.Answer.TheVariants.{Accepted}
 
 -- ---- "Every way to Idle keeps only the sequence number."
 
@@ -82,7 +79,7 @@ pub record AwaitsAck (s t : State) : Type 0 where
 
 -- "same EOF again": what an expiry sends from t is what left
 abbrev pub Again : Option Said → State → Type 0
-Again left t = left ≡ some (eof t.marks.condition t.file.sum t.file.progress)
+Again left t = left ≡ Some (eof t.marks.condition t.file.sum t.file.progress)
 
 -- the checksum goes on over the bytes that leave: whatever bytes before those the stored number is of
 abbrev pub GoesOnOver : State → List ℕ → State → Type 0
@@ -135,10 +132,10 @@ Left s file (FaultAbandon c) t = Back s t
 Left s file Close t = Back s t
 Left s file Nothing t = t ≡ s
 
--- PROMISE step_leaves: an accepted step leaves what document 01 says of its case, and nothing else changes.
+-- PROMISE step_left: an accepted step leaves what document 01 says of its case, and nothing else changes.
 abbrev pub StepLeft : Type 0
 StepLeft =
-    (s : State) (file : List ℕ) (expired : Bool) (room : ℕ) → (step_outcome s file expired room).answer ≡ Accepted
+    (s : State) (file : List ℕ) (expired : Bool) (room : ℕ) → (step_outcome s file expired room).answer ≡ Ok tt
     → Left s file (due_of s expired) (step_outcome s file expired room).state
 
 -- ---- cancel
@@ -152,30 +149,30 @@ pub record CancelLeaves : Type 0 where
       × (t.marks.finished ≡ s.marks.finished) × (t.marks.anomalies ≡ s.marks.anomalies)
   pub sends : (s : State) (source : EntityId) (number : TransactionSeqNum) → (cancel_outcome s source number).yes ≡ true → Good s
       → (file : List ℕ) (expired : Bool) (out : List ℕ) → Bytes file → let t = (cancel_outcome s source number).state in
-      (step_outcome t file expired (length out)).answer ≡ Accepted
-      → decode (pdu_of t file expired out) ≡ some (record { head = s.fixed.head; said = eof_of_sent s 15 })
+      (step_outcome t file expired (length out)).answer ≡ Ok tt
+      → decode (pdu_of t file expired out) ≡ Some (record { head = s.fixed.head; said = eof_of_sent s 15 })
 
 -- ---- deliver
 
 -- bytes that are a PDU for a sender, with this meaning
 abbrev pub ReadAs : List ℕ → Meaning → Type 0
-ReadAs bytes m = (well_framed bytes ≡ true) × (body_of (frame_in bytes) (body_in bytes) ≡ Means m)
+ReadAs bytes m = (well_framed bytes ≡ true) × (body_of (frame_in bytes) (body_in bytes) ≡ Ok m)
 
 -- PROMISE deliver_leaves: what an accepted delivery leaves, by what the PDU means; all else is equal.
 pub record DeliverLeaves : Type 0 where
   -- "queue": those of its requests that owe a PDU stand behind the pending ones
-  pub nak : (s : State) (bytes : List ℕ) (n : ℕ) → Good s → (deliver_outcome s bytes).answer ≡ Accepted → ReadAs bytes (Nak n) → let t = (deliver_outcome s bytes).state in
+  pub nak : (s : State) (bytes : List ℕ) (n : ℕ) → Good s → (deliver_outcome s bytes).answer ≡ Ok tt → ReadAs bytes (Nak n) → let t = (deliver_outcome s bytes).state in
       (pending t.queue ≡ pending s.queue ++ those owes (requests bytes))
       × (t.step ≡ s.step) × Same s t × (t.file ≡ s.file) × (t.marks ≡ s.marks)
   -- "WaitingForFinished"
-  pub ack : (s : State) (bytes : List ℕ) → (deliver_outcome s bytes).answer ≡ Accepted → ReadAs bytes AckOfEof → let t = (deliver_outcome s bytes).state in
+  pub ack : (s : State) (bytes : List ℕ) → (deliver_outcome s bytes).answer ≡ Ok tt → ReadAs bytes AckOfEof → let t = (deliver_outcome s bytes).state in
       (t.step ≡ WaitingForFinished) × Same s t × (t.file ≡ s.file) × (t.queue ≡ s.queue) × (t.marks ≡ s.marks)
   -- "Closing; queue and owed EOF dropped"; in Idle no effect
-  pub finished : (s : State) (bytes : List ℕ) (p : FinishedParams) → (deliver_outcome s bytes).answer ≡ Accepted → ReadAs bytes (Finished p) → ¬ (s.step ≡ Idle)
+  pub finished : (s : State) (bytes : List ℕ) (p : FinishedParams) → (deliver_outcome s bytes).answer ≡ Ok tt → ReadAs bytes (Finished p) → ¬ (s.step ≡ Idle)
       → let t = (deliver_outcome s bytes).state in
       (t.step ≡ Closing) × EmptyQueue t.queue × (t.marks.owed ≡ false) × (t.marks.finished ≡ p) × Same s t × (t.file ≡ s.file)
       × (t.marks.cancelled ≡ s.marks.cancelled) × (t.marks.condition ≡ s.marks.condition) × (t.marks.count ≡ s.marks.count)
       × (t.marks.anomalies ≡ s.marks.anomalies)
-  pub finished_idle : (s : State) (bytes : List ℕ) (p : FinishedParams) → (deliver_outcome s bytes).answer ≡ Accepted → ReadAs bytes (Finished p) → s.step ≡ Idle
+  pub finished_idle : (s : State) (bytes : List ℕ) (p : FinishedParams) → (deliver_outcome s bytes).answer ≡ Ok tt → ReadAs bytes (Finished p) → s.step ≡ Idle
       → (deliver_outcome s bytes).state ≡ s
-  pub keep_alive : (s : State) (bytes : List ℕ) (p : ℕ) → (deliver_outcome s bytes).answer ≡ Accepted → ReadAs bytes (KeepAlive p) → (deliver_outcome s bytes).state ≡ s
+  pub keep_alive : (s : State) (bytes : List ℕ) (p : ℕ) → (deliver_outcome s bytes).answer ≡ Ok tt → ReadAs bytes (KeepAlive p) → (deliver_outcome s bytes).state ≡ s

@@ -1,3 +1,4 @@
+pub mod Answers
 pub mod Refusals
 pub mod States
 pub mod Queues

@@ -1,20 +1,17 @@
 -- What an accepted put makes, said field by field. The definitions' own helpers are not named here, so that a mistake in one of them shows. Proof: proofs/Makes.antt.
 -- Assumes nothing.
-use Rattle.std.specs.Prelude.{◌≡◌, Bool, false, List, ℕ, take}
+use Rattle.std.specs.Prelude.{◌≡◌, Bool, false, List, ℕ, take, None, Ok, Option, Some}
 use Rattle.rules_pdu.specs.Numbers.{larger, is_large, segment_length}
 use Rattle.rules.specs.Put.{entry_of, put_outcome}
-use Rattle.types.specs.declared.Choice.{Choice}
-use Rattle.types.specs.declared.Choice.TheVariants.{Given, Default}
 use Rattle.types.specs.declared.LocalEntityConfig.{LocalEntityConfig}
 use Rattle.types.specs.declared.PutRequest.{PutRequest}
 use Rattle.types.specs.declared.State.{State}
 use Rattle.types.specs.declared.TransactionStep.TheVariants.{SendingMetadata}
-use Rattle.types.specs.declared.Answer.TheVariants.{Accepted}
 
 -- "Mode and closure are the put's if given, else the entry's."
-abbrev pub Chosen : Choice → Bool → Bool → Type 0
-Chosen (Given word) entry b = b ≡ word
-Chosen Default entry b = b ≡ entry
+abbrev pub Chosen : Option Bool → Bool → Bool → Type 0
+Chosen (Some word) entry b = b ≡ word
+Chosen None entry b = b ≡ entry
 
 -- the state t that a put makes; e is the entry found (first_entry), and what holds of `larger`, `is_large` and `segment_length` is numbers_exactly
 pub record PutMade (s : State) (c : LocalEntityConfig) (q : PutRequest) (source destination : List ℕ) (S : ℕ) (t : State) : Type 0 where
@@ -42,5 +39,5 @@ pub record PutMade (s : State) (c : LocalEntityConfig) (q : PutRequest) (source 
 -- PROMISE put_makes: so it is for every accepted put.
 abbrev pub PutMakes : Type 0
 PutMakes =
-    (s : State) (c : LocalEntityConfig) (q : PutRequest) (source destination : List ℕ) (S : ℕ) → (put_outcome s c q source destination S).answer ≡ Accepted
+    (s : State) (c : LocalEntityConfig) (q : PutRequest) (source destination : List ℕ) (S : ℕ) → (put_outcome s c q source destination S).answer ≡ Ok tt
     → PutMade s c q source destination S (put_outcome s c q source destination S).state

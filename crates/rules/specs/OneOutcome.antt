@@ -1,14 +1,13 @@
 -- Each call's relation determines its outcome: the answer, the whole new state, the events, every byte of the out buffer, and a delivery's number. Proof: proofs/OneOutcome.antt.
 -- Assumes nothing.
 use Rattle.std.specs.Prelude.{◌≡◌, Bool, List, ℕ}
+use Rattle.rules.specs.Answers.{Stepped, Bursted}
 use Rattle.rules.specs.Calls.{PutMeets, DeliverMeets, StepMeets, BurstMeets, CancelMeets, ResetMeets, NewMeets}
 use Rattle.types.specs.declared.EntityId.{EntityId}
 use Rattle.types.specs.declared.TransactionSeqNum.{TransactionSeqNum}
 use Rattle.types.specs.declared.LocalEntityConfig.{LocalEntityConfig}
 use Rattle.types.specs.declared.PutRequest.{PutRequest}
 use Rattle.types.specs.declared.State.{State}
-use Rattle.types.specs.declared.Stepped.{Stepped}
-use Rattle.types.specs.declared.Bursted.{Bursted}
 
 -- one value satisfies it, and every other that does is equal to that one
 abbrev pub ExactlyOne : {A : Type 0} → (A → Type 0) → Type 0

@@ -1,10 +1,11 @@
 -- Put: refusals 1 to 8 in checking order, or the state anew.
 -- Assumes nothing.
-use Rattle.std.specs.Prelude.{Bool, true, false, List, [], ◌∷◌, ◌++◌, ℕ, suc, ◌-◌, eqb, leb, ltb, length, get_or, take, replicate}
+use Rattle.std.specs.Prelude.{Bool, true, false, List, [], ◌∷◌, ◌++◌, ℕ, suc, ◌-◌, eqb, leb, ltb, length, get_or, take, replicate, None, Option, Result, Some, ⊤}
 use Rattle.basis.specs.Pick.{pick, ◌and◌, ◌or◌, not}
 use Rattle.rules_pdu.specs.Numbers.{fits, larger, widened, number_after, is_large, segment_length}
 use Rattle.rules_leaves.specs.Utf8.{is_utf8}
 use Rattle.rules_pdu.specs.Layout.{metadata, pdu_length}
+use Rattle.rules.specs.Answers.{Done}
 use Rattle.rules.specs.Refusals.{◌when◌, first_of, by_answer}
 use Rattle.rules.specs.States.{is_idle, empty_queue, no_file, no_marks}
 use Rattle.types.specs.declared.EntityId.{EntityId}
@@ -12,16 +13,13 @@ use Rattle.types.specs.declared.TransactionSeqNum.{TransactionSeqNum}
 use Rattle.types.specs.declared.Head.{Head}
 use Rattle.types.specs.declared.RemoteEntityConfig.{RemoteEntityConfig}
 use Rattle.types.specs.declared.LocalEntityConfig.{LocalEntityConfig}
-use Rattle.types.specs.declared.Choice.{Choice}
-use Rattle.types.specs.declared.Choice.TheVariants.{Given, Default}
 use Rattle.types.specs.declared.PutRequest.{PutRequest}
 use Rattle.types.specs.declared.Fixed.{Fixed}
 use Rattle.types.specs.declared.Names.{Names}
 use Rattle.types.specs.declared.State.{State}
 use Rattle.types.specs.declared.TransactionStep.TheVariants.{SendingMetadata}
 use Rattle.types.specs.declared.Refusal.TheVariants.{AlreadyBusy, BadIdWidth, NoRemoteCfgFound, BadConfig, BadNameLength, SourceFileNotValidUtf8, DestFileNotValidUtf8, PacketLimit}
-use Rattle.types.specs.declared.Answer.{Answer}
-use Rattle.types.specs.declared.Done.{Done}
+use Rattle.types.specs.declared.Refusal.{Refusal}
 
 -- ---- the conditions, one after another
 
@@ -75,9 +73,9 @@ good_lengths n m = good_length n and good_length m
 -- ---- what an accepted put makes
 
 -- "Mode and closure are the put's if given, else the entry's."
-abbrev pub chosen : Choice → Bool → Bool
-chosen (Given b) d = b
-chosen Default d = d
+abbrev pub chosen : Option Bool → Bool → Bool
+chosen (Some b) d = b
+chosen None d = d
 
 abbrev pub head_of : LocalEntityConfig → RemoteEntityConfig → PutRequest → TransactionSeqNum → ℕ → Head
 head_of c e q n S =
@@ -131,7 +129,7 @@ started n f names =
 
 -- ---- the call: 1 to 8 in checking order
 
-unfoldable pub put_answer : State → LocalEntityConfig → PutRequest → List ℕ → List ℕ → ℕ → Answer
+unfoldable pub put_answer : State → LocalEntityConfig → PutRequest → List ℕ → List ℕ → ℕ → Result ⊤ Refusal
 put_answer s c q source destination S =
     let e = entry_of c q.destination.1 in
     first_of

@@ -1,13 +1,11 @@
 -- "Refusals in checking order": a table of them, the answer that it gives, and the number of each (0: accepted).
 -- Assumes nothing.
-use Rattle.std.specs.Prelude.{Bool, List, [], ◌∷◌, ℕ}
+use Rattle.std.specs.Prelude.{Bool, List, [], ◌∷◌, ℕ, Err, Ok, Result, ⊤}
 use Rattle.basis.specs.Pick.{pick}
+use Rattle.rules.specs.Answers.{Done}
 use Rattle.types.specs.declared.State.{State}
 use Rattle.types.specs.declared.Refusal.{Refusal}
 use Rattle.types.specs.declared.Refusal.TheVariants.{AlreadyBusy, BadIdWidth, NoRemoteCfgFound, BadConfig, BadNameLength, SourceFileNotValidUtf8, DestFileNotValidUtf8, PacketLimit, Malformed, CantProcessPacketType, UnexpectedPdu, OtherTransaction, InvalidNakPdu, RetransmitFull, FileChanged, OutTooSmall, BurstTooLong}
-use Rattle.types.specs.declared.Answer.{Answer}
-use Rattle.types.specs.declared.Answer.TheVariants.{Accepted, Refused}
-use Rattle.types.specs.declared.Done.{Done}
 
 -- ---- a table
 
@@ -17,20 +15,20 @@ pub data Line : Type 0 where
   ◌when◌ : (refusal : Refusal) → (test : Bool) → Line
 
 -- the first whose test is true; accepted if there is none
-abbrev pub first_of : List Line → Answer
-first_of [] = Accepted
-first_of ((refusal when test) ∷ rest) = pick test (Refused refusal) (first_of rest)
+abbrev pub first_of : List Line → Result ⊤ Refusal
+first_of [] = Ok tt
+first_of ((refusal when test) ∷ rest) = pick test (Err refusal) (first_of rest)
 
 -- "A refusal returns its number and changes nothing."
 abbrev pub refused : State → Refusal → Done
-refused before r = record { answer = Refused r; state = before }
+refused before r = record { answer = Err r; state = before }
 
 abbrev pub accepted : State → Done
-accepted after = record { answer = Accepted; state = after }
+accepted after = record { answer = (Ok tt); state = after }
 
-abbrev pub by_answer : State → State → Answer → Done
-by_answer before after Accepted = accepted after
-by_answer before after (Refused r) = refused before r
+abbrev pub by_answer : State → State → Result ⊤ Refusal → Done
+by_answer before after (Ok tt) = accepted after
+by_answer before after (Err r) = refused before r
 
 -- ---- the numbers
 
@@ -53,6 +51,6 @@ refusal_no FileChanged = 30
 refusal_no OutTooSmall = 31
 refusal_no BurstTooLong = 32
 
-abbrev pub answer_no : Answer → ℕ
-answer_no Accepted = 0
-answer_no (Refused r) = refusal_no r
+abbrev pub answer_no : Result ⊤ Refusal → ℕ
+answer_no (Ok tt) = 0
+answer_no (Err r) = refusal_no r

@@ -1,13 +1,13 @@
 -- A run: calls of any kind made one after another, bursts among them, what each shows the host, and what can be counted from that alone.
 -- From the heading "what can be counted" on, nothing looks into the handler. `flat_map f l` is f of each element of l, joined; `λ e. P` is P, said of e.
 -- Assumes nothing.
-use Rattle.std.specs.Prelude.{◌≡◌, ◌⊎◌, Bool, true, false, ℕ, zero, suc, ◌+◌, ◌-◌, ltb, length, take, drop}
+use Rattle.std.specs.Prelude.{◌≡◌, ◌⊎◌, Bool, true, false, ℕ, zero, suc, ◌+◌, ◌-◌, ltb, length, take, drop, Err, None, Ok, Result, Some, ⊤, Option}
 use mathlib.Core.List.{List, [], ◌∷◌, ◌++◌, map, flat_map}
-use Rattle.std.proofs.Math.Option.{Option, none, some}
 use Rattle.basis.specs.Pick.{pick, flag}
 use Rattle.basis.specs.Bytes.{part}
 use Rattle.rules_pdu.specs.Reading.{framed_in, body_of}
 use Rattle.rules_pdu.specs.Decoding.{is_eof_in}
+use Rattle.rules.specs.Answers.{Bursted}
 use Rattle.rules.specs.Put.{put_outcome}
 use Rattle.rules.specs.Deliver.{deliver_outcome, asked}
 use Rattle.rules.specs.Step.{step_outcome, step_bytes}
@@ -20,16 +20,13 @@ use Rattle.types.specs.declared.LocalEntityConfig.{LocalEntityConfig}
 use Rattle.types.specs.declared.PutRequest.{PutRequest}
 use Rattle.types.specs.declared.SegmentRequest.{SegmentRequest}
 use Rattle.types.specs.declared.Frame.{Frame}
-use Rattle.types.specs.declared.Framed.{Framed}
-use Rattle.types.specs.declared.Framed.TheVariants.{Malformed as NoFrame, Whole}
-use Rattle.types.specs.declared.Body.{Body}
-use Rattle.types.specs.declared.Body.TheVariants.{Malformed as NoBody, CantProcess, Means}
-use Rattle.types.specs.declared.Answer.{Answer}
-use Rattle.types.specs.declared.Answer.TheVariants.{Accepted, Refused}
+use Rattle.types.specs.declared.Meaning.{Meaning}
+use Rattle.types.specs.declared.ReadError.{ReadError}
+use Rattle.types.specs.declared.ReadError.TheVariants.{Malformed as NoBody, CantProcess}
+use Rattle.types.specs.declared.Refusal.{Refusal}
 use Rattle.types.specs.declared.Sending.{Sending}
 use Rattle.types.specs.declared.State.{State}
 use Rattle.types.specs.declared.Made.{Made}
-use Rattle.types.specs.declared.Bursted.{Bursted}
 
 -- ---- lists
 
@@ -75,14 +72,14 @@ after (cancel source number) s = (cancel_outcome s source number).state
 after reset s = reset_outcome s
 
 -- what an accepted call shows; a refused one is turned
-abbrev pub unless : Answer → Shown → Shown
-unless Accepted e = e
-unless (Refused r) e = turned
+abbrev pub unless : Result ⊤ Refusal → Shown → Shown
+unless (Ok tt) e = e
+unless (Err r) e = turned
 
 -- the PDU in front of the out buffer, n bytes long (0: none)
 abbrev pub pdu_in : ℕ → List ℕ → Option (List ℕ)
-pdu_in zero out = none
-pdu_in (suc n) out = some (take (suc n) out)
+pdu_in zero out = None
+pdu_in (suc n) out = Some (take (suc n) out)
 
 abbrev pub shows : Single → State → Shown
 shows (put c q a b S) s = unless (put_outcome s c q a b S).answer began
@@ -138,14 +135,14 @@ Lends file cs = All (LendsCall file) cs
 -- ---- what can be counted
 
 -- the requests in a delivery's bytes: a NAK's pairs; none in any other
-abbrev pub requests_of_body : List ℕ → Frame → Body → List SegmentRequest
-requests_of_body bytes f NoBody = []
-requests_of_body bytes f CantProcess = []
-requests_of_body bytes f (Means m) = asked bytes f m
+abbrev pub requests_of_body : List ℕ → Frame → Result Meaning ReadError → List SegmentRequest
+requests_of_body bytes f (Err NoBody) = []
+requests_of_body bytes f (Err CantProcess) = []
+requests_of_body bytes f (Ok m) = asked bytes f m
 
-abbrev pub requests_of_frame : List ℕ → Framed → List SegmentRequest
-requests_of_frame bytes NoFrame = []
-requests_of_frame bytes (Whole f) = requests_of_body bytes f (body_of f (part bytes f.start (f.end - f.start)))
+abbrev pub requests_of_frame : List ℕ → Option Frame → List SegmentRequest
+requests_of_frame bytes None = []
+requests_of_frame bytes (Some f) = requests_of_body bytes f (body_of f (part bytes f.start (f.end - f.start)))
 
 unfoldable pub requests : List ℕ → List SegmentRequest
 requests bytes = requests_of_frame bytes (framed_in bytes)
@@ -163,8 +160,8 @@ abbrev pub emits : Shown → List (List ℕ)
 emits turned = []
 emits began = []
 emits (took bytes) = []
-emits (went none) = []
-emits (went (some pdu)) = pdu ∷ []
+emits (went None) = []
+emits (went (Some pdu)) = pdu ∷ []
 emits ended = []
 
 -- is it an unrefused step

@@ -1,8 +1,7 @@
 -- A step by document 01's list, said on fields and bytes: which case applies, what the PDU that leaves says, and which state is left. The definitions' own helpers
 -- are not named here, so that a mistake in one of them shows. Proofs: proofs/Applies.antt, Says.antt, Leaves.antt.
 -- Assumes nothing.
-use Rattle.std.specs.Prelude.{◌≡◌, ◌↔◌, ◌⊎◌, Bool, true, false, List, [], ◌∷◌, ◌++◌, ℕ, ◌+◌, ◌-◌, ◌<◌, ◌≤◌, min, eqb, length, get_or, take, drop}
-use Rattle.std.proofs.Math.Option.{Option, none, some}
+use Rattle.std.specs.Prelude.{◌≡◌, ◌↔◌, ◌⊎◌, Bool, true, false, List, [], ◌∷◌, ◌++◌, ℕ, ◌+◌, ◌-◌, ◌<◌, ◌≤◌, min, eqb, length, get_or, take, drop, Ok, Option, None, Some}
 use Rattle.basis.specs.Pick.{pick, ◌and◌}
 use Rattle.basis.specs.Bytes.{Bytes}
 use Rattle.rules_pdu.specs.Layout.{Said, metadata, file_data, eof, ack_finished, encode}
@@ -16,7 +15,6 @@ use Rattle.types.specs.declared.State.{State}
 use Rattle.types.specs.declared.TransactionStep.TheVariants.{Idle, SendingMetadata, SendingFileData, SendingEof, WaitingForEofAck, WaitingForFinished, Closing}
 use Rattle.types.specs.declared.Due.{Due}
 use Rattle.types.specs.declared.Due.TheVariants.{CancelEof, Repair, Metadata, Data, NoErrorEof, EofAgain, FaultCancel, FaultIgnore, FaultAbandon, Close, Nothing}
-use Rattle.types.specs.declared.Answer.TheVariants.{Accepted}
 
 -- ---- "A step does the first that applies"
 
@@ -77,28 +75,28 @@ bytes_at file offset n = file_data offset (take n (drop offset file))
 
 -- "one PDU of the oldest request": (0, 0) the metadata PDU, else the next piece, of at most L bytes
 abbrev pub answer_to : State → List ℕ → List SegmentRequest → Option Said
-answer_to s file [] = none
+answer_to s file [] = None
 answer_to s file (r ∷ rs) =
-    some (pick (eqb r.start 0 and eqb r.end 0) (its_metadata s) (bytes_at file r.start (min s.fixed.segment (r.end - r.start))))
+    Some (pick (eqb r.start 0 and eqb r.end 0) (its_metadata s) (bytes_at file r.start (min s.fixed.segment (r.end - r.start))))
 
 -- the PDU that document 01 names for each case
 abbrev pub named : State → List ℕ → Due → Option Said
-named s file CancelEof = some (eof_of_sent s s.marks.condition)
+named s file CancelEof = Some (eof_of_sent s s.marks.condition)
 named s file Repair = answer_to s file (pending s.queue)
-named s file Metadata = some (its_metadata s)
-named s file Data = some (bytes_at file s.file.progress (min s.fixed.segment (s.fixed.size - s.file.progress)))
-named s file NoErrorEof = some (eof 0 s.file.sum s.fixed.size)
-named s file EofAgain = some (eof_of_sent s s.marks.condition)
-named s file (FaultCancel c) = some (eof_of_sent s c)
-named s file (FaultIgnore c) = none
-named s file (FaultAbandon c) = none
-named s file Close = pick s.fixed.head.unacknowledged none (some (ack_finished s.marks.finished.condition 1))
-named s file Nothing = none
+named s file Metadata = Some (its_metadata s)
+named s file Data = Some (bytes_at file s.file.progress (min s.fixed.segment (s.fixed.size - s.file.progress)))
+named s file NoErrorEof = Some (eof 0 s.file.sum s.fixed.size)
+named s file EofAgain = Some (eof_of_sent s s.marks.condition)
+named s file (FaultCancel c) = Some (eof_of_sent s c)
+named s file (FaultIgnore c) = None
+named s file (FaultAbandon c) = None
+named s file Close = pick s.fixed.head.unacknowledged None (Some (ack_finished s.marks.finished.condition 1))
+named s file Nothing = None
 
 -- a PDU's bytes by the layouts, or none
 abbrev pub bytes_of : Head → Option Said → List ℕ
-bytes_of h none = []
-bytes_of h (some said) = encode h said
+bytes_of h None = []
+bytes_of h (Some said) = encode h said
 
 -- the bytes that an accepted step emits
 abbrev pub pdu_of : State → List ℕ → Bool → List ℕ → List ℕ
@@ -109,31 +107,31 @@ pdu_of s file expired out = take (step_outcome s file expired (length out)).leng
 pub record DueSays : Type 0 where
   -- in any state: its bytes are the layout's; for a repair, if the queue is in order
   pub written : (s : State) (file : List ℕ) (expired : Bool) (out : List ℕ) → (due_of s expired ≡ Repair → GoodQueue s.file.progress s.queue)
-      → (step_outcome s file expired (length out)).answer ≡ Accepted
+      → (step_outcome s file expired (length out)).answer ≡ Ok tt
       → pdu_of s file expired out ≡ bytes_of s.fixed.head (named s file (due_of s expired))
-  pub says : (s : State) (file : List ℕ) (expired : Bool) (out : List ℕ) → Good s → Bytes file → (step_outcome s file expired (length out)).answer ≡ Accepted
+  pub says : (s : State) (file : List ℕ) (expired : Bool) (out : List ℕ) → Good s → Bytes file → (step_outcome s file expired (length out)).answer ≡ Ok tt
       → decode (pdu_of s file expired out) ≡ with_head s.fixed.head (named s file (due_of s expired))
-  pub silent : (s : State) (file : List ℕ) (expired : Bool) (room : ℕ) → Good s → Bytes file → (step_outcome s file expired room).answer ≡ Accepted
-      → named s file (due_of s expired) ≡ none → (step_outcome s file expired room).length ≡ 0
+  pub silent : (s : State) (file : List ℕ) (expired : Bool) (room : ℕ) → Good s → Bytes file → (step_outcome s file expired room).answer ≡ Ok tt
+      → named s file (due_of s expired) ≡ None → (step_outcome s file expired room).length ≡ 0
 
 abbrev pub IsEof : Option Said → Type 0
-IsEof none = ⊥
-IsEof (some (metadata closure type n a b)) = ⊥
-IsEof (some (file_data o bs)) = ⊥
-IsEof (some (eof c k n)) = Unit {0}
-IsEof (some (ack_finished c t)) = ⊥
+IsEof None = ⊥
+IsEof (Some (metadata closure type n a b)) = ⊥
+IsEof (Some (file_data o bs)) = ⊥
+IsEof (Some (eof c k n)) = Unit {0}
+IsEof (Some (ack_finished c t)) = ⊥
 
 -- PROMISE step_emits
 pub record StepEmits : Type 0 where
   -- "After an accepted step the out buffer holds the PDU in front and its old bytes behind."
-  pub buffer : (s : State) (file : List ℕ) (expired : Bool) (out : List ℕ) → (step_outcome s file expired (length out)).answer ≡ Accepted
+  pub buffer : (s : State) (file : List ℕ) (expired : Bool) (out : List ℕ) → (step_outcome s file expired (length out)).answer ≡ Ok tt
       → step_bytes s file expired out ≡ pdu_of s file expired out ++ drop (step_outcome s file expired (length out)).length out
   -- the state is the one after the case that is due (step-leaves says which, field by field)
-  pub state : (s : State) (file : List ℕ) (expired : Bool) (room : ℕ) → (step_outcome s file expired room).answer ≡ Accepted
+  pub state : (s : State) (file : List ℕ) (expired : Bool) (room : ℕ) → (step_outcome s file expired room).answer ≡ Ok tt
       → (step_outcome s file expired room).state ≡ after_of s file (due_of s expired)
   -- the events are those of the case that is due (event_cases)
-  pub events : (s : State) (file : List ℕ) (expired : Bool) (room : ℕ) → (step_outcome s file expired room).answer ≡ Accepted
+  pub events : (s : State) (file : List ℕ) (expired : Bool) (room : ℕ) → (step_outcome s file expired room).answer ≡ Ok tt
       → (step_outcome s file expired room).events ≡ events_of s (due_of s expired)
   -- "Each EOF gives an EOF-sent event; .. only if the configuration's flag is set."
-  pub eof_sent : (s : State) (file : List ℕ) (expired : Bool) (room : ℕ) → (step_outcome s file expired room).answer ≡ Accepted
+  pub eof_sent : (s : State) (file : List ℕ) (expired : Bool) (room : ℕ) → (step_outcome s file expired room).answer ≡ Ok tt
       → ((step_outcome s file expired room).events.eofsent ≡ true) ↔ ((s.fixed.eofsent ≡ true) × IsEof (named s file (due_of s expired)))

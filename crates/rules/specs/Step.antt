@@ -1,10 +1,11 @@
 -- "A step does the first that applies": the case that is due, then for each case the PDU, the state after it and the events.
 -- Assumes nothing.
-use Rattle.std.specs.Prelude.{Bool, true, false, List, [], ℕ, ◌+◌, ◌-◌, min, eqb, leb, ltb, length, get_or, take, drop}
+use Rattle.std.specs.Prelude.{Bool, true, false, List, [], ℕ, ◌+◌, ◌-◌, min, eqb, leb, ltb, length, get_or, take, drop, Err, None, Ok, Option, Some}
 use Rattle.basis.specs.Pick.{pick, ◌and◌, not}
 use Rattle.basis.specs.Laid.{in_front}
 use Rattle.rules_leaves.specs.Checksum.{sum_on}
 use Rattle.rules_pdu.specs.Layout.{Said, metadata, file_data, eof, ack_finished, encode}
+use Rattle.rules.specs.Answers.{Stepped}
 use Rattle.rules.specs.States.{is_idle, to_step, with_file, with_queue, with_marks, counted, marked, settled, empty_queue, idle, source_name, destination_name}
 use Rattle.rules.specs.Queues.{is_metadata, oldest, piece, served}
 use Rattle.types.specs.declared.SegmentRequest.{SegmentRequest}
@@ -18,16 +19,11 @@ use Rattle.types.specs.declared.Sending.{Sending}
 use Rattle.types.specs.declared.Sending.TheVariants.{Nothing as NoPdu, Metadata as MetadataPdu, FileData, Eof as EofPdu, AckFinished}
 use Rattle.types.specs.declared.Events.{Events}
 use Rattle.types.specs.declared.TransactionId.{TransactionId}
-use Rattle.types.specs.declared.FaultEvent.TheVariants.{NoFault, Fault}
-use Rattle.types.specs.declared.FinishedEvent.{FinishedEvent}
-use Rattle.types.specs.declared.FinishedEvent.TheVariants.{NotFinished, Finished}
 use Rattle.types.specs.declared.FinishedParams.{FinishedParams}
-use Rattle.types.specs.declared.TimerEvent.{TimerEvent}
-use Rattle.types.specs.declared.TimerEvent.TheVariants.{NoTimer, AckTimer, CheckTimer}
+use Rattle.types.specs.declared.Timer.{Timer}
+use Rattle.types.specs.declared.Timer.TheVariants.{Ack, Check}
 use Rattle.types.specs.declared.Refusal.{Refusal}
 use Rattle.types.specs.declared.Refusal.TheVariants.{FileChanged, OutTooSmall}
-use Rattle.types.specs.declared.Answer.TheVariants.{Accepted, Refused}
-use Rattle.types.specs.declared.Stepped.{Stepped}
 
 -- ---- faults: "the action is the configured one of sixteen for the condition; once cancelled it is abandon"
 
@@ -175,46 +171,46 @@ id_of s = (s.fixed.head.source, s.fixed.head.number)
 
 -- none
 abbrev pub quiet : State → Events
-quiet s = record { id = id_of s; transaction = false; eofsent = false; fault = NoFault; finished = NotFinished; timer = NoTimer }
+quiet s = record { id = id_of s; transaction = false; eofsent = false; fault = None; finished = None; timer = None }
 
 -- "Each EOF gives an EOF-sent event; this and the finished events of 5 and 8 come only if the configuration's flag is set."
-unfoldable pub finished_if : State → FinishedParams → FinishedEvent
-finished_if s p = pick s.fixed.finished (Finished p) NotFinished
+unfoldable pub finished_if : State → FinishedParams → Option FinishedParams
+finished_if s p = pick s.fixed.finished (Some p) None
 
 -- the ack timer of an EOF that waits for its ACK
-unfoldable pub ack_timer : State → TimerEvent
-ack_timer s = pick s.fixed.head.unacknowledged NoTimer AckTimer
+unfoldable pub ack_timer : State → Option Timer
+ack_timer s = pick s.fixed.head.unacknowledged None (Some Ack)
 
 -- 5: "with closure .. start check timer, without it a finished event"
-unfoldable pub eof_timer : State → TimerEvent
-eof_timer s = pick s.fixed.head.unacknowledged (pick s.fixed.closure CheckTimer NoTimer) AckTimer
+unfoldable pub eof_timer : State → Option Timer
+eof_timer s = pick s.fixed.head.unacknowledged (pick s.fixed.closure (Some Check) None) (Some Ack)
 
 -- "(NoError, Complete, Unreported)"
 abbrev pub unreported : FinishedParams
 unreported = record { condition = 0; delivery = 0; status = 3 }
 
-unfoldable pub eof_finished : State → FinishedEvent
-eof_finished s = pick s.fixed.head.unacknowledged (pick s.fixed.closure NotFinished (finished_if s unreported)) NotFinished
+unfoldable pub eof_finished : State → Option FinishedParams
+eof_finished s = pick s.fixed.head.unacknowledged (pick s.fixed.closure None (finished_if s unreported)) None
 
 abbrev pub events_of : State → Due → Events
 events_of s CancelEof =
-    record { id = id_of s; transaction = false; eofsent = s.fixed.eofsent; fault = NoFault; finished = NotFinished; timer = ack_timer s }
+    record { id = id_of s; transaction = false; eofsent = s.fixed.eofsent; fault = None; finished = None; timer = ack_timer s }
 events_of s Repair = quiet s
 events_of s Metadata =
-    record { id = id_of s; transaction = true; eofsent = false; fault = NoFault; finished = NotFinished; timer = NoTimer }
+    record { id = id_of s; transaction = true; eofsent = false; fault = None; finished = None; timer = None }
 events_of s Data = quiet s
 events_of s NoErrorEof =
-    record { id = id_of s; transaction = false; eofsent = s.fixed.eofsent; fault = NoFault; finished = eof_finished s; timer = eof_timer s }
+    record { id = id_of s; transaction = false; eofsent = s.fixed.eofsent; fault = None; finished = eof_finished s; timer = eof_timer s }
 events_of s EofAgain =
-    record { id = id_of s; transaction = false; eofsent = s.fixed.eofsent; fault = NoFault; finished = NotFinished; timer = AckTimer }
+    record { id = id_of s; transaction = false; eofsent = s.fixed.eofsent; fault = None; finished = None; timer = (Some Ack) }
 events_of s (FaultCancel c) =
-    record { id = id_of s; transaction = false; eofsent = s.fixed.eofsent; fault = Fault 1 c s.file.progress; finished = NotFinished; timer = ack_timer s }
+    record { id = id_of s; transaction = false; eofsent = s.fixed.eofsent; fault = Some (record { action = 1; condition = c; progress = s.file.progress }); finished = None; timer = ack_timer s }
 events_of s (FaultIgnore c) =
-    record { id = id_of s; transaction = false; eofsent = false; fault = Fault 3 c s.file.progress; finished = NotFinished; timer = NoTimer }
+    record { id = id_of s; transaction = false; eofsent = false; fault = Some (record { action = 3; condition = c; progress = s.file.progress }); finished = None; timer = None }
 events_of s (FaultAbandon c) =
-    record { id = id_of s; transaction = false; eofsent = false; fault = Fault 4 c s.file.progress; finished = NotFinished; timer = NoTimer }
+    record { id = id_of s; transaction = false; eofsent = false; fault = Some (record { action = 4; condition = c; progress = s.file.progress }); finished = None; timer = None }
 events_of s Close =
-    record { id = id_of s; transaction = false; eofsent = false; fault = NoFault; finished = finished_if s s.marks.finished; timer = NoTimer }
+    record { id = id_of s; transaction = false; eofsent = false; fault = None; finished = finished_if s s.marks.finished; timer = None }
 events_of s Nothing = quiet s
 
 -- ---- the call
@@ -224,7 +220,7 @@ unfoldable pub changed : State → ℕ → Bool
 changed s lent = not (is_idle s.step) and not (eqb lent s.fixed.size)
 
 abbrev pub refused_step : State → Refusal → Stepped
-refused_step s r = record { answer = Refused r; length = 0; events = quiet s; state = s }
+refused_step s r = record { answer = Err r; length = 0; events = quiet s; state = s }
 
 abbrev pub bytes_due : State → List ℕ → Bool → List ℕ
 bytes_due s file expired = bytes_for s file (sending_of s (due_of s expired))
@@ -233,7 +229,7 @@ bytes_due s file expired = bytes_for s file (sending_of s (due_of s expired))
 unfoldable pub performed : State → List ℕ → Due → ℕ → Stepped
 performed s file d room =
     let n = length (bytes_for s file (sending_of s d)) in
-    pick (ltb room n) (refused_step s OutTooSmall) (record { answer = Accepted; length = n; events = events_of s d; state = after_of s file d })
+    pick (ltb room n) (refused_step s OutTooSmall) (record { answer = (Ok tt); length = n; events = events_of s d; state = after_of s file d })
 
 -- over the lent file, the expiry flag and the room of the out buffer
 unfoldable pub step_outcome : State → List ℕ → Bool → ℕ → Stepped

@@ -1,8 +1,7 @@
 -- Request R-2, "Keep the running checksum of the first-pass bytes": of which bytes the stored number is, that nothing changes on the link while the same file is lent,
 -- and that a step reads no byte of the file but those that it sends. What is said here of a step holds of each step of a burst: these are the same steps (burst_is_steps). Proofs: proofs/Sums.antt, Joined.antt.
 -- Assumes nothing.
-use Rattle.std.specs.Prelude.{◌≡◌, Bool, true, List, [], ◌∷◌, ◌++◌, ℕ, ◌^◌, ◌<◌, eqb, length, take, drop}
-use Rattle.std.proofs.Math.Option.{Option, none, some}
+use Rattle.std.specs.Prelude.{◌≡◌, Bool, true, List, [], ◌∷◌, ◌++◌, ℕ, ◌^◌, ◌<◌, eqb, length, take, drop, Ok, Option, None, Some}
 use Rattle.basis.specs.Pick.{pick}
 use Rattle.basis.specs.Bytes.{Bytes}
 use Rattle.rules_leaves.specs.Checksum.{sum_of}
@@ -23,14 +22,13 @@ use Rattle.types.specs.declared.TransactionStep.TheVariants.{Idle}
 use Rattle.types.specs.declared.Due.{Due}
 use Rattle.types.specs.declared.Due.TheVariants.{CancelEof, Repair, Metadata, Data, NoErrorEof, EofAgain, FaultCancel, FaultIgnore, FaultAbandon, Close, Nothing}
 use Rattle.types.specs.declared.Sending.TheVariants.{FileData}
-use Rattle.types.specs.declared.Answer.TheVariants.{Accepted}
 
 -- ---- the first pass, as an observer of the link joins it
 
 -- file data that begins where the bytes so far end are the next of the first pass; a repair begins before that end, and adds nothing
 abbrev pub joined : List ℕ → Option (ℕ × List ℕ) → List ℕ
-joined bs none = bs
-joined bs (some (offset, bytes)) = pick (eqb offset (length bs)) (bs ++ bytes) bs
+joined bs None = bs
+joined bs (Some (offset, bytes)) = pick (eqb offset (length bs)) (bs ++ bytes) bs
 
 -- an accepted put begins anew
 abbrev pub first_bytes : List ℕ → List Shown → List ℕ
@@ -38,8 +36,8 @@ first_bytes bs [] = bs
 first_bytes bs (turned ∷ es) = first_bytes bs es
 first_bytes bs (began ∷ es) = first_bytes [] es
 first_bytes bs (took bytes ∷ es) = first_bytes bs es
-first_bytes bs (went none ∷ es) = first_bytes bs es
-first_bytes bs (went (some pdu) ∷ es) = first_bytes (joined bs (file_data_of pdu)) es
+first_bytes bs (went None ∷ es) = first_bytes bs es
+first_bytes bs (went (Some pdu) ∷ es) = first_bytes (joined bs (file_data_of pdu)) es
 first_bytes bs (ended ∷ es) = first_bytes bs es
 
 -- of all that a run has shown: the first-pass file data since the last accepted put
@@ -52,7 +50,7 @@ abbrev pub FirstJoined : Type 0
 FirstJoined =
     (h : State) (c : LocalEntityConfig) (q : PutRequest) (source destination file : List ℕ)
     → Bytes file → length file < 2 ^ 64
-    → (put_outcome h c q source destination (length file)).answer ≡ Accepted
+    → (put_outcome h c q source destination (length file)).answer ≡ Ok tt
     → (cs : List Call) → Lends file cs
     → let s = (put_outcome h c q source destination (length file)).state in
     let w = transfer_of c q h.number source destination file in
@@ -77,9 +75,9 @@ SumOfTheSent =
     (n : TransactionSeqNum) (cs : List Call) → Proper cs
     → let s = behind cs (new_outcome n) in
     let bs = sent_in (trace cs (new_outcome n)) in
-    (lent : List ℕ) (expired : Bool) (out : List ℕ) → Bytes lent → (step_outcome s lent expired (length out)).answer ≡ Accepted
+    (lent : List ℕ) (expired : Bool) (out : List ℕ) → Bytes lent → (step_outcome s lent expired (length out)).answer ≡ Ok tt
     → is_eof_in (pdu_of s lent expired out) ≡ true
-    → (condition : ℕ) × (decode (pdu_of s lent expired out) ≡ some (record { head = s.fixed.head; said = eof condition (sum_of s.fixed.checksum bs) (length bs) }))
+    → (condition : ℕ) × (decode (pdu_of s lent expired out) ≡ Some (record { head = s.fixed.head; said = eof condition (sum_of s.fixed.checksum bs) (length bs) }))
 
 -- ---- the same file lent
 
@@ -88,17 +86,17 @@ abbrev pub eof_over : State → List ℕ → ℕ → Said
 eof_over s file condition = eof condition (sum_of s.fixed.checksum (take s.file.progress file)) s.file.progress
 
 abbrev pub named_before : State → List ℕ → Due → Option Said
-named_before s file CancelEof = some (eof_over s file s.marks.condition)
+named_before s file CancelEof = Some (eof_over s file s.marks.condition)
 named_before s file Repair = named s file Repair
 named_before s file Metadata = named s file Metadata
 named_before s file Data = named s file Data
-named_before s file NoErrorEof = some (eof 0 (sum_of s.fixed.checksum file) s.fixed.size)
-named_before s file EofAgain = some (eof_over s file s.marks.condition)
-named_before s file (FaultCancel c) = some (eof_over s file c)
-named_before s file (FaultIgnore c) = none
-named_before s file (FaultAbandon c) = none
+named_before s file NoErrorEof = Some (eof 0 (sum_of s.fixed.checksum file) s.fixed.size)
+named_before s file EofAgain = Some (eof_over s file s.marks.condition)
+named_before s file (FaultCancel c) = Some (eof_over s file c)
+named_before s file (FaultIgnore c) = None
+named_before s file (FaultAbandon c) = None
 named_before s file Close = named s file Close
-named_before s file Nothing = none
+named_before s file Nothing = None
 
 -- PROMISE same_link: after an accepted put on any handler, fresh or used, and any calls that lend the put's file, up to the next accepted put: what a step emits that
 -- lends this file is byte for byte what it was before R-2.
@@ -106,12 +104,12 @@ abbrev pub SameLink : Type 0
 SameLink =
     (h : State) (c : LocalEntityConfig) (q : PutRequest) (source destination file : List ℕ)
     → Bytes file → length file < 2 ^ 64
-    → (put_outcome h c q source destination (length file)).answer ≡ Accepted
+    → (put_outcome h c q source destination (length file)).answer ≡ Ok tt
     → (cs : List Call) → Proper cs → Lends file cs
     → let s = (put_outcome h c q source destination (length file)).state in
     let t = behind cs s in
     NoPut (trace cs s)
-    → (expired : Bool) (out : List ℕ) → (step_outcome t file expired (length out)).answer ≡ Accepted
+    → (expired : Bool) (out : List ℕ) → (step_outcome t file expired (length out)).answer ≡ Ok tt
     → pdu_of t file expired out ≡ bytes_of t.fixed.head (named_before t file (due_of t expired))
 
 -- ---- what is read

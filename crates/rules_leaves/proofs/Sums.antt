@@ -1,5 +1,6 @@
 -- Sums taken piece by piece, by induction on the first piece; a finished number that goes on; that each fits its field; and a polynomial reversed twice.
 -- Assumes nothing.
+use Rattle.std.specs.Prelude.{Option}
 use mathlib.Core.Path.{◌≡◌, refl, sym, ap, ◌∙◌}
 use mathlib.Core.Bool.{Bool, true, false}
 use mathlib.Core.List.{List, [], ◌∷◌, ◌++◌}
@@ -12,7 +13,6 @@ use lib.ListN.{length}
 use Rattle.basis.specs.Pick.{pick}
 use Rattle.basis.specs.Bytes.{Bytes}
 use Rattle.basis.proofs.Pick.{cases}
-use Rattle.types.specs.declared.Checksum.{Checksum}
 use Rattle.rules_leaves.specs.Checksum.{word, more, modular_from, modular, at_place, modular_at, reversed, crc_bit, crc_bits, crc_byte, crc_from, crc32, castagnoli, ethernet, checksum_of, sum_in, sum_of, crc16_bit, crc16_bits, crc16_byte, crc16_from, crc16, Piecewise, crc32_on, sum_on, GoesOn}
 use Rattle.rules_leaves.proofs.Xor.{xor_back}
 
@@ -90,7 +90,7 @@ crc32-append polynomial a b =
 no_bytes : (type : ℕ) → sum_of type [] ≡ 0
 unfolding sum_of checksum_of modular crc32
 no_bytes type =
-    let P : Checksum → Type 0 = λ (x : Checksum). sum_in x ≡ 0 in
+    let P : Option ℕ → Type 0 = λ (x : Option ℕ). sum_in x ≡ 0 in
     cases P (eqb type 0) _ _ (λ e. refl)
     (λ e. cases P (eqb type 2) _ _ (λ e. refl) (λ e. cases P (eqb type 3) _ _ (λ e. refl) (λ e. cases P (eqb type 15) _ _ (λ e. refl) (λ e. refl))))
 

@@ -1,10 +1,8 @@
 -- "Checksums over the first n bytes": 0 modular, 2 CRC-32C, 3 CRC-32, 15 null; and the CRC-16 that closes a PDU. Proof: proofs/Sums.antt.
 -- Assumes nothing.
-use Rattle.std.specs.Prelude.{◌≡◌, List, [], ◌∷◌, ◌++◌, ℕ, zero, suc, ◌+◌, ◌-◌, ◌*◌, ◌/◌, ◌%◌, ◌^◌, eqb, ltb, length}
+use Rattle.std.specs.Prelude.{◌≡◌, List, [], ◌∷◌, ◌++◌, ℕ, zero, suc, ◌+◌, ◌-◌, ◌*◌, ◌/◌, ◌%◌, ◌^◌, eqb, ltb, length, None, Option, Some}
 use Rattle.std.specs.Int.Bits.{bit_xor}
 use Rattle.basis.specs.Pick.{pick}
-use Rattle.types.specs.declared.Checksum.{Checksum}
-use Rattle.types.specs.declared.Checksum.TheVariants.{Is, UnknownType}
 
 -- ---- 0 modular: "big-endian 4-byte words, last one padded with zeros, sum modulo 2^32"
 
@@ -59,18 +57,18 @@ ethernet = 0x04C11DB7
 
 -- ---- by type; any other type has none
 
-unfoldable pub checksum_of : ℕ → List ℕ → Checksum
+unfoldable pub checksum_of : ℕ → List ℕ → Option ℕ
 checksum_of type s =
-    pick (eqb type 0) (Is (modular s))
-    (pick (eqb type 2) (Is (crc32 castagnoli s))
-    (pick (eqb type 3) (Is (crc32 ethernet s))
-    (pick (eqb type 15) (Is 0)
-    UnknownType)))
+    pick (eqb type 0) (Some (modular s))
+    (pick (eqb type 2) (Some (crc32 castagnoli s))
+    (pick (eqb type 3) (Some (crc32 ethernet s))
+    (pick (eqb type 15) (Some 0)
+    None)))
 
 -- the number of it; 0 where there is none, which no accepted put asks for
-abbrev pub sum_in : Checksum → ℕ
-sum_in (Is n) = n
-sum_in UnknownType = 0
+abbrev pub sum_in : Option ℕ → ℕ
+sum_in (Some n) = n
+sum_in None = 0
 
 unfoldable pub sum_of : ℕ → List ℕ → ℕ
 sum_of type s = sum_in (checksum_of type s)

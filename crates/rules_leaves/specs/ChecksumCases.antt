@@ -1,13 +1,11 @@
 -- The published check values of the checksums, as one statement over the list of them.
 -- Assumes nothing.
-use Rattle.std.specs.Prelude.{◌≡◌, refl, List, [], ◌∷◌, ℕ}
-use Rattle.types.specs.declared.Checksum.{Checksum}
-use Rattle.types.specs.declared.Checksum.TheVariants.{Is, UnknownType}
+use Rattle.std.specs.Prelude.{◌≡◌, refl, List, [], ◌∷◌, ℕ, None, Option, Some}
 use Rattle.rules_leaves.specs.Checksum.{more, modular, reversed, crc_byte, crc32, castagnoli, ethernet, checksum_of, sum_of, crc16_byte, crc16}
 
 -- a type over bytes, its number in an EOF, the CRC-16 of bytes, a polynomial's 32 bits in the other order: each with what it gives
 pub data Case : Type 0 where
-  sum : ℕ → List ℕ → Checksum → Case
+  sum : ℕ → List ℕ → Option ℕ → Case
   carried : ℕ → List ℕ → ℕ → Case
   closing : List ℕ → ℕ → Case
   backwards : ℕ → ℕ → Case
@@ -32,11 +30,11 @@ five = 0x41 ∷ 0x42 ∷ 0x43 ∷ 0x44 ∷ 0x45 ∷ []
 
 abbrev pub cases : List Case
 cases =
-    sum 0 five (Is 0x86424344)
-    ∷ sum 1 five UnknownType
-    ∷ sum 2 digits (Is 0xE3069283)
-    ∷ sum 3 digits (Is 0xCBF43926)
-    ∷ sum 15 five (Is 0)
+    sum 0 five (Some 0x86424344)
+    ∷ sum 1 five None
+    ∷ sum 2 digits (Some 0xE3069283)
+    ∷ sum 3 digits (Some 0xCBF43926)
+    ∷ sum 15 five (Some 0)
     ∷ carried 2 digits 0xE3069283
     ∷ carried 1 five 0
     ∷ closing digits 0x29B1

@@ -1,5 +1,6 @@
 -- A body is read by the layouts and by nothing else: each test that the reading makes is turned into the field that must stand there.
 -- Assumes nothing.
+use Rattle.std.specs.Prelude.{Err, Ok, Result}
 use mathlib.Core.Path.{◌≡◌, refl, sym, ap, ◌∙◌}
 use mathlib.Core.Logic.{◌⊎◌, inl, inr}
 use mathlib.Core.Bool.{Bool, true, false, false≢true}
@@ -22,8 +23,9 @@ use Rattle.rules_pdu.specs.Reading.{reserved, are_tlvs, finished_params, finishe
 use Rattle.rules_pdu.specs.PduLaws.{GoodTlvs, RequestsFit, Tlvs, end, tlv, cleared, ByLayout, heard, of_finished, unread, BodyExactly, ReservedExactly}
 use Rattle.types.specs.declared.SegmentRequest.{SegmentRequest}
 use Rattle.types.specs.declared.Meaning.TheVariants.{Finished, AckOfEof, Nak, KeepAlive}
-use Rattle.types.specs.declared.Body.{Body}
-use Rattle.types.specs.declared.Body.TheVariants.{Malformed, CantProcess, Means}
+use Rattle.types.specs.declared.Meaning.{Meaning}
+use Rattle.types.specs.declared.ReadError.{ReadError}
+use Rattle.types.specs.declared.ReadError.TheVariants.{Malformed, CantProcess}
 use Rattle.rules_pdu.proofs.Places.{At, at_start, past, byte_at, whole_length}
 use Rattle.rules_pdu.proofs.Spare.{ack-byte}
 use Rattle.rules_pdu.proofs.Heard.{tlvs_exactly, one_byte, heard-body}
@@ -79,7 +81,7 @@ spare_unjudged large b =
 -- ---- what the layouts give, a body comes to
 
 ack-of-finished-read : {b : List ℕ} (large : Bool) (c t : ℕ) → At b 0 (layout large (ack_finished c t)) → c < 16 → t < 4 → reserved c ≡ false
-    → directive_in large (byte b 0) b ≡ CantProcess
+    → directive_in large (byte b 0) b ≡ (Err CantProcess)
 unfolding directive_in ack_in
 ack-of-finished-read {b} large c t p k l r =
     let d : byte b 0 ≡ 6 = byte_at p (omega arith) in
@@ -90,13 +92,13 @@ ack-of-finished-read {b} large c t p k l r =
     simp (d, e, f, g, q, r)
 
 -- the codes whose bodies stay unread
-code_unread : (large : Bool) (b : List ℕ) {code : ℕ} → (code ≡ 4) ⊎ (code ≡ 7) ⊎ (code ≡ 9) → directive_in large code b ≡ CantProcess
+code_unread : (large : Bool) (b : List ℕ) {code : ℕ} → (code ≡ 4) ⊎ (code ≡ 7) ⊎ (code ≡ 9) → directive_in large code b ≡ (Err CantProcess)
 unfolding directive_in
 code_unread large b (inl e) = rw e
 code_unread large b (inr (inl e)) = rw e
 code_unread large b (inr (inr e)) = rw e
 
-comes : (large : Bool) (b : List ℕ) (r : Body) → ByLayout large b r → directive_in large (byte b 0) b ≡ r
+comes : (large : Bool) (b : List ℕ) (r : Result Meaning ReadError) → ByLayout large b r → directive_in large (byte b 0) b ≡ r
 unfolding byte
 comes large b _ (heard m y e) = sym (spare_unjudged large b) ∙ heard-body large m (at_start (cleared b) (layout_heard large m) (sym e)) y
 comes large b _ (of_finished c t k l r e) =
@@ -161,11 +163,11 @@ tlvs_in (tlv {t} {s} e value r) y =
     let ts = tlvs_in r (bytes-behind value s y.1.1) in
     ((t, value) ∷ ts.0, (e, y.1.0, ts.1), rw (one_byte t y.0, one_byte (length value) y.1.0, ts.2))
 
-abbrev Judged : Bool → List ℕ → Body → Type 0
-Judged large b r = (r ≡ Malformed) ⊎ ByLayout large b r
+abbrev Judged : Bool → List ℕ → Result Meaning ReadError → Type 0
+Judged large b r = (r ≡ (Err Malformed)) ⊎ ByLayout large b r
 
 finished-given : (large : Bool) (x : ℕ) (s : List ℕ) (ts : List (ℕ × List ℕ)) → x < 256 → reserved (x / 16) ≡ false → GoodTlvs ts → wire (tlv_fields ts) ≡ s
-    → ByLayout large (5 ∷ x ∷ s) (Means (Finished (finished_params x)))
+    → ByLayout large (5 ∷ x ∷ s) (Ok (Finished (finished_params x)))
 unfolding finished_params cleared byte
 finished-given large x s ts b r g e =
     let v : x / 16 * 16 + x / 4 % 2 * 4 + x % 4 ≡ x / 16 * 16 + x % 8 = omega arith in
@@ -183,13 +185,13 @@ finished-judged large (x ∷ s) y =
     (λ t. let ts = tlvs_in ((tlvs_exactly s).0 t) y.1 in inr (finished-given large x s ts.0 y.0 r ts.1 ts.2))
     (λ t. inl refl)))
 
-ack-of-eof-given : (large : Bool) (x : ℕ) → x < 256 → reserved (x / 16) ≡ false → ByLayout large (6 ∷ 0x40 ∷ x ∷ []) (Means AckOfEof)
+ack-of-eof-given : (large : Bool) (x : ℕ) → x < 256 → reserved (x / 16) ≡ false → ByLayout large (6 ∷ 0x40 ∷ x ∷ []) (Ok AckOfEof)
 unfolding cleared byte
 ack-of-eof-given large x b r =
     heard (ack_eof (x / 16) (x % 4)) (omega arith, r, omega arith)
     (rw (one_byte 6 (omega arith), one_byte 0x40 (omega arith), one_byte (x / 16 * 16 + x % 4) (omega arith)))
 
-ack-of-finished-given : (large : Bool) (x : ℕ) → x < 256 → reserved (x / 16) ≡ false → ByLayout large (6 ∷ 0x51 ∷ x ∷ []) CantProcess
+ack-of-finished-given : (large : Bool) (x : ℕ) → x < 256 → reserved (x / 16) ≡ false → ByLayout large (6 ∷ 0x51 ∷ x ∷ []) (Err CantProcess)
 unfolding cleared byte
 ack-of-finished-given large x b r =
     of_finished (x / 16) (x % 4) (omega arith) (omega arith) r
@@ -208,7 +210,7 @@ ack-judged large (a ∷ x ∷ z ∷ s) y =
     cases (Judged large (6 ∷ a ∷ x ∷ z ∷ s)) (eqb (length (6 ∷ a ∷ x ∷ z ∷ s)) 3) _ _
     (λ e. let l = eqb-true (length (6 ∷ a ∷ x ∷ z ∷ s)) 3 e in absurd (omega arith)) (λ e. inl refl)
 
-nak-given : (large : Bool) (k : ℕ) (s : List ℕ) → Bytes s → length s ≡ 2 * F large + 2 * F large * k → ByLayout large (8 ∷ s) (Means (Nak k))
+nak-given : (large : Bool) (k : ℕ) (s : List ℕ) → Bytes s → length s ≡ 2 * F large + 2 * F large * k → ByLayout large (8 ∷ s) (Ok (Nak k))
 unfolding cleared byte
 nak-given large k s y e =
     let a = two_numbers (F large) (2 * F large * k) s y (omega (arith, e)) in
@@ -227,7 +229,7 @@ nak-judged large s y =
     (λ m. let i = ltb-false (length (8 ∷ s)) (1 + w) l in
     inr (nak-given large (n / w) s y (omega (arith, eqb-true (n % w) 0 m, div-add-mod n w)))) (λ m. inl refl))
 
-keep_alive_given : (large : Bool) (s : List ℕ) → Bytes s → length s ≡ F large → ByLayout large (12 ∷ s) (Means (KeepAlive (num_at (12 ∷ s) 1 (F large))))
+keep_alive_given : (large : Bool) (s : List ℕ) → Bytes s → length s ≡ F large → ByLayout large (12 ∷ s) (Ok (KeepAlive (num_at (12 ∷ s) 1 (F large))))
 unfolding cleared byte num_at part
 keep_alive_given large s y e =
     let t : take (F large) s ≡ s = rw (← e) (take-length s) in
@@ -255,7 +257,7 @@ judged large (c ∷ s) y =
     (λ n. cases P (eqb c 12) _ _ (λ e. rw (eqb-true c 12 e) (keep_alive_judged large s y.1)) (λ n. inl refl)))))))
 
 -- the layouts give no Malformed
-pub given : {large : Bool} {b : List ℕ} {r : Body} → ByLayout large b r → r ≡ Malformed → ⊥
+pub given : {large : Bool} {b : List ℕ} {r : Result Meaning ReadError} → ByLayout large b r → r ≡ (Err Malformed) → ⊥
 given (heard m y e) q = false≢true (cc q)
 given (of_finished c t k l r e) q = false≢true (cc q)
 given (unread code rest k e) q = false≢true (cc q)
@@ -266,6 +268,6 @@ body_exactly large b y = (
   comes large b,
 )
   where
-    none-given : {r : Body} → Judged large b r → ((q : Body) → ByLayout large b q → ⊥) → r ≡ Malformed
+    none-given : {r : Result Meaning ReadError} → Judged large b r → ((q : Result Meaning ReadError) → ByLayout large b q → ⊥) → r ≡ (Err Malformed)
     none-given (inl e) n = e
     none-given {r} (inr p) n = absurd (n r p)

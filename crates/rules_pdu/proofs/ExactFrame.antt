@@ -1,5 +1,6 @@
 -- Bytes are a frame exactly if they are a PDU by the layouts: what the tests say of the header's bytes is what the writer puts there.
 -- Assumes nothing.
+use Rattle.std.specs.Prelude.{None, Option, Some}
 use mathlib.Core.Path.{◌≡◌, refl, sym, ap, ap₂, subst, ◌∙◌}
 use mathlib.Core.Bool.{Bool, true, false, false≢true}
 use mathlib.Core.List.{List, [], ◌∷◌, ◌++◌, append-nil, append_assoc}
@@ -21,8 +22,6 @@ use Rattle.rules_pdu.specs.Reading.{bit_in, version_in, crc_in, length_in, id_wi
 use Rattle.rules_pdu.specs.PduLaws.{Fit, cleared_head, IsPdu, FrameExactly}
 use Rattle.types.specs.declared.Head.{Head}
 use Rattle.types.specs.declared.Frame.{Frame}
-use Rattle.types.specs.declared.Framed.{Framed}
-use Rattle.types.specs.declared.Framed.TheVariants.{Malformed, Whole}
 use Rattle.rules_pdu.proofs.Places.{length-wire, wire-append}
 use Rattle.rules_pdu.proofs.Round.{head_with, Frames, good-range, length-trailer, two_behind, filedata_read, tosender_read, head_read, h-read, end_read, own-length, body-end-read, body-read, well_framed-read}
 use Rattle.rules_pdu.proofs.ExactBody.{number}
@@ -107,12 +106,12 @@ pub own : {s : List ℕ} {f : Frame} {body fill : List ℕ} → Bytes s → (p :
 unfolding frames
 own y p = own-length (frames y p)
 
-read_as_it_stands : (s : List ℕ) → Bytes s → (f : Frame) (body fill : List ℕ) → IsPdu s f body fill → (framed_in s ≡ Whole f) × (body_in s ≡ body)
+read_as_it_stands : (s : List ℕ) → Bytes s → (f : Frame) (body fill : List ℕ) → IsPdu s f body fill → (framed_in s ≡ Some f) × (body_in s ≡ body)
 unfolding framed_in frame_in
 read_as_it_stands s y f body fill p =
     let q = frames y p in
     let o = q.opens in
-    let at : ℕ → ℕ → ℕ → Framed = λ i e n. Whole (record { head = f.head; filedata = f.filedata; tosender = f.tosender; start = i; end = e; length = n }) in
+    let at : ℕ → ℕ → ℕ → Option Frame = λ i e n. Some (record { head = f.head; filedata = f.filedata; tosender = f.tosender; start = i; end = e; length = n }) in
     let n : end_in s ≡ f.length = end_read q ∙ sym (own y p) ∙ sym p.belong in (
       rw (well_framed-read q, head_read o, filedata_read o, tosender_read o, body-end-read q, n, h-read o)
           (ap₂ (λ (i e : ℕ). at i e f.length) (sym p.starts) (sym p.ends)),
@@ -302,7 +301,7 @@ unfolding framed_in
 frame_exactly s y = (
   (
     λ e f body fill p. false≢true (cc (e, (read_as_it_stands s y f body fill p).0)),
-    λ n. cases (λ (x : Framed). x ≡ Malformed) (well_framed s) _ _ (λ t. let p = some-pdu s y (tests s t) in absurd (n p.0 p.1 p.2 p.3)) (λ t. refl),
+    λ n. cases (λ (x : Option Frame). x ≡ None) (well_framed s) _ _ (λ t. let p = some-pdu s y (tests s t) in absurd (n p.0 p.1 p.2 p.3)) (λ t. refl),
   ),
   read_as_it_stands s y,
 )

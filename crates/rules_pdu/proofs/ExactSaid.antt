@@ -1,9 +1,9 @@
 -- Bytes are read as a sender's PDU exactly if they are one by the layouts: what is read stands, field before field from the end, where the layout puts it.
 -- Assumes nothing.
+use Rattle.std.specs.Prelude.{Option, None, Some}
 use mathlib.Core.Path.{◌≡◌, refl, sym, ap, subst, ◌∙◌}
 use mathlib.Core.Bool.{Bool, true, false, false≢true}
 use mathlib.Core.List.{List, [], ◌∷◌, append-nil}
-use mathlib.Core.Option.{Option, none, some}
 use Prim.Native.Nat.{ℕ, zero, suc, ◌+◌, ◌-◌, ◌*◌, ◌/◌, ◌%◌, ◌^◌, ◌<◌, ◌≤◌}
 use native.Mathlib.Nat.{zero-add}
 use native.Mathlib.Omega.{arith}
@@ -31,14 +31,14 @@ use Rattle.rules_pdu.proofs.ExactFrame.{frames, own, tests, flag_bit, empty, som
 
 -- ---- what the layouts give is read
 
-is_read : {s : List ℕ} {p : Pdu} {fill : List ℕ} → Bytes s → IsSaid s p fill → decode_first s ≡ some p
+is_read : {s : List ℕ} {p : Pdu} {fill : List ℕ} → Bytes s → IsSaid s p fill → decode_first s ≡ Some p
 is_read {s} {p} y i =
     first_read (frames y i.framed)
     ∙ ap (with_head p.head) (by-type (is_file_data p.said) i.body i.says (λ c e. said_read p.head p.said (at_start _ _ (sym e)) i.sayable))
   where
     by-type : (t : Bool) (b : List ℕ) → wire (layout p.head.large p.said) ≡ pick t b (cleared b)
-        → ((c : List ℕ) → wire (layout p.head.large p.said) ≡ c → said_in t p.head.large c ≡ some p.said)
-        → said_in t p.head.large b ≡ some p.said
+        → ((c : List ℕ) → wire (layout p.head.large p.said) ≡ c → said_in t p.head.large c ≡ Some p.said)
+        → said_in t p.head.large b ≡ Some p.said
     by-type true b e r = r b e
     by-type false b e r = sym (said_spare p.head.large b) ∙ r (cleared b) e
 
@@ -90,8 +90,8 @@ opening (c ∷ x ∷ s) fs code v l e k m p = rw (one_byte code k, one_byte v m,
 -- ---- what is read is what the layouts give
 
 abbrev Given : Head → Bool → List ℕ → Option Said → Type 0
-Given h filedata b none = Unit {0}
-Given h filedata b (some m) = (is_file_data m ≡ filedata) × Sayable h m × (wire (layout h.large m) ≡ pick filedata b (cleared b))
+Given h filedata b None = Unit {0}
+Given h filedata b (Some m) = (is_file_data m ≡ filedata) × Sayable h m × (wire (layout h.large m) ≡ pick filedata b (cleared b))
 
 data_given : (h : Head) (b : List ℕ) → Bytes b → length b + C h.crc < 65536 → Given h true b (data_in h.large b)
 unfolding data_in
@@ -186,13 +186,13 @@ said-given h false b y l =
 -- ---- in its frame
 
 abbrev Decoded : List ℕ → Option Pdu → Type 0
-Decoded s none = Unit {0}
-Decoded s (some p) = (fill : List ℕ) × IsSaid s p fill
+Decoded s None = Unit {0}
+Decoded s (Some p) = (fill : List ℕ) × IsSaid s p fill
 
 in_frame : {s : List ℕ} {f : Frame} {body fill : List ℕ} → Bytes s → IsPdu s f body fill → f.tosender ≡ false
     → (r : Option Said) → Given f.head f.filedata body r → Decoded s (with_head f.head r)
-in_frame y i e none g = tt
-in_frame {s} {f} {body} {fill} y i e (some m) g =
+in_frame y i e None g = tt
+in_frame {s} {f} {body} {fill} y i e (Some m) g =
     let o = own y i in (
       fill,
       record {
@@ -227,7 +227,7 @@ decoded s y = go (well_framed s) refl
         let b : Bytes q.1 = subst Bytes (body-read f) (body_bytes s y) in
         let h = q.0.head in
         rw (first_read f)
-        (cases (Decoded s) q.0.tosender none (with_head h (said_in q.0.filedata h.large q.1)) (λ t. tt)
+        (cases (Decoded s) q.0.tosender None (with_head h (said_in q.0.filedata h.large q.1)) (λ t. tt)
         (λ t. in_frame y q.3 t (said_in q.0.filedata h.large q.1) (said-given h q.0.filedata q.1 b f.short)))
     go false e = rw e tt
 
@@ -235,12 +235,12 @@ decoded s y = go (well_framed s) refl
 
 module _ (s : List ℕ) (y : Bytes s) where
   abbrev Alone : Option Pdu → Type 0
-  Alone none = Unit {0}
-  Alone (some p) = IsSaid s p []
+  Alone None = Unit {0}
+  Alone (Some p) = IsSaid s p []
 
   no-fill : (r : Option Pdu) → length s ≡ end_in s → Decoded s r → Alone r
-  no-fill none e d = tt
-  no-fill (some p) e d =
+  no-fill None e d = tt
+  no-fill (Some p) e d =
       let f = frames y d.1.framed in
       let w = whole f in
       let n = end_read f in
@@ -248,9 +248,9 @@ module _ (s : List ℕ) (y : Bytes s) where
 
   alone : Alone (decode s)
   unfolding decode
-  alone = cases Alone (eqb (length s) (end_in s)) (decode_first s) none (λ e. no-fill (decode_first s) (eqb-true (length s) (end_in s) e) (decoded s y)) (λ n. tt)
+  alone = cases Alone (eqb (length s) (end_in s)) (decode_first s) None (λ e. no-fill (decode_first s) (eqb-true (length s) (end_in s) e) (decoded s y)) (λ n. tt)
 
-  is-alone : {p : Pdu} → IsSaid s p [] → decode s ≡ some p
+  is-alone : {p : Pdu} → IsSaid s p [] → decode s ≡ Some p
   is-alone i = alone-read (frames y i.framed) ∙ is_read y i
 
 pub decode_exactly : DecodeExactly
@@ -261,10 +261,10 @@ decode_exactly s y = (
   (λ e p i. false≢true (cc (e, is-alone s y i)), not_alone (decode s) (alone s y)),
 )
   where
-    nothing : (r : Option Pdu) → Decoded s r → ((p : Pdu) (fill : List ℕ) → IsSaid s p fill → ⊥) → r ≡ none
-    nothing none d n = refl
-    nothing (some p) d n = absurd (n p d.0 d.1)
+    nothing : (r : Option Pdu) → Decoded s r → ((p : Pdu) (fill : List ℕ) → IsSaid s p fill → ⊥) → r ≡ None
+    nothing None d n = refl
+    nothing (Some p) d n = absurd (n p d.0 d.1)
 
-    not_alone : (r : Option Pdu) → Alone s y r → ((p : Pdu) → IsSaid s p [] → ⊥) → r ≡ none
-    not_alone none d n = refl
-    not_alone (some p) d n = absurd (n p d)
+    not_alone : (r : Option Pdu) → Alone s y r → ((p : Pdu) → IsSaid s p [] → ⊥) → r ≡ None
+    not_alone None d n = refl
+    not_alone (Some p) d n = absurd (n p d)

@@ -1,6 +1,7 @@
 -- What a peer writes by the layouts is read with the peer's meaning: the frame's laws, then each body by its places. The test of TLVs
 -- says yes exactly to the grammar's runs, by what is still to come where the test stands.
 -- Assumes nothing.
+use Rattle.std.specs.Prelude.{Ok}
 use mathlib.Core.Path.{◌≡◌, refl, ap, subst, ◌∙◌}
 use mathlib.Core.Logic.{◌⊎◌, inl, inr}
 use mathlib.Core.Bool.{Bool, true, false, false≢true}
@@ -20,7 +21,6 @@ use Rattle.rules_pdu.specs.Reading.{Tlv, at_type, at_length, in_value, broken, v
 use Rattle.rules_pdu.specs.PduLaws.{GoodTlvs, RequestsFit, Hearable, meaning_of, requests_of, first_pair, HeardRead, Tlvs, end, tlv, TlvsExactly}
 use Rattle.types.specs.declared.Head.{Head}
 use Rattle.types.specs.declared.SegmentRequest.{SegmentRequest}
-use Rattle.types.specs.declared.Body.TheVariants.{Means}
 use Rattle.rules_pdu.proofs.Places.{At, at_start, past, num-at, byte_at, whole_length, opened, length-wire}
 use Rattle.rules_pdu.proofs.Round.{pdu-frames, pdu-reported, filedata_read, tosender_read, head_read, behind-head, body-read, well_framed-read}
 
@@ -99,7 +99,7 @@ tlvs_written (t ∷ ts) g =
     type-lt (inr e) = omega arith
 
 finished-read : {b : List ℕ} (large : Bool) (c d s : ℕ) (ts : List (ℕ × List ℕ)) → At b 0 (layout_heard large (finished c d s ts))
-    → Hearable large (finished c d s ts) → finished_in b ≡ Means (meaning_of (finished c d s ts))
+    → Hearable large (finished c d s ts) → finished_in b ≡ Ok (meaning_of (finished c d s ts))
 unfolding finished_in finished_params are_tlvs
 finished-read {b} large c d s ts p h =
     let e : length b ≡ 2 + sizes (tlv_fields ts) = whole_length p ∙ omega arith in
@@ -111,7 +111,7 @@ finished-read {b} large c d s ts p h =
     simp (l, f, q, r, t, h.1, (past (past p)).holds, taken (tlvs_written ts h.4))
 
 ack-of-eof-read : {b : List ℕ} (large : Bool) (c t : ℕ) → At b 0 (layout_heard large (ack_eof c t)) → Hearable large (ack_eof c t)
-    → ack_in b ≡ Means (meaning_of (ack_eof c t))
+    → ack_in b ≡ Ok (meaning_of (ack_eof c t))
 unfolding ack_in
 ack-of-eof-read {b} large c t p h =
     let e : length b ≡ 3 = whole_length p in
@@ -125,7 +125,7 @@ sizes-requests large [] = omega arith
 sizes-requests large (r ∷ rs) = let i = sizes-requests large rs in omega arith
 
 nak-read : {b : List ℕ} (large : Bool) (x y : ℕ) (rs : List SegmentRequest) → At b 0 (layout_heard large (nak x y rs))
-    → nak_in large b ≡ Means (meaning_of (nak x y rs))
+    → nak_in large b ≡ Ok (meaning_of (nak x y rs))
 unfolding nak_in request_count
 nak-read {b} large x y rs p =
     let z = sizes-requests large rs in
@@ -137,13 +137,13 @@ nak-read {b} large x y rs p =
     simp (l, q, n, m)
 
 keep_alive_read : {b : List ℕ} (large : Bool) (n : ℕ) → At b 0 (layout_heard large (keep_alive n)) → Hearable large (keep_alive n)
-    → keep_alive_in large b ≡ Means (meaning_of (keep_alive n))
+    → keep_alive_in large b ≡ Ok (meaning_of (keep_alive n))
 unfolding keep_alive_in
 keep_alive_read {b} large n p h =
     let e : length b ≡ 1 + F large = whole_length p ∙ omega arith in
     simp (eq-eqb _ _ e, num-at (past p) h)
 
-pub heard-body : {b : List ℕ} (large : Bool) (m : Heard) → At b 0 (layout_heard large m) → Hearable large m → directive_in large (byte b 0) b ≡ Means (meaning_of m)
+pub heard-body : {b : List ℕ} (large : Bool) (m : Heard) → At b 0 (layout_heard large m) → Hearable large m → directive_in large (byte b 0) b ≡ Ok (meaning_of m)
 unfolding directive_in
 heard-body {b} large (finished c d s ts) p h = let e : byte b 0 ≡ 5 = byte_at p (omega arith) in rw e (finished-read large c d s ts p h)
 heard-body {b} large (ack_eof c t) p h = let e : byte b 0 ≡ 6 = byte_at p (omega arith) in rw e (ack-of-eof-read large c t p h)

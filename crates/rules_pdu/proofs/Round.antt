@@ -1,10 +1,10 @@
 -- Reading what was written gives it back: each field stands at its place, so the header is read first, then the frame, then each body.
 -- Assumes nothing.
+use Rattle.std.specs.Prelude.{Some, None}
 use mathlib.Core.Path.{◌≡◌, refl, sym, ap, ap₂, ◌∙◌}
 use mathlib.Core.Logic.{◌⊎◌, inl, inr}
 use mathlib.Core.Bool.{Bool, true, false, false≢true}
 use mathlib.Core.List.{List, [], ◌∷◌, ◌++◌, append_assoc, append-nil}
-use mathlib.Core.Option.{none, some}
 use Prim.Native.Nat.{ℕ, ◌+◌, ◌-◌, ◌*◌, ◌/◌, ◌%◌, ◌^◌, ◌<◌, ◌≤◌}
 use native.Mathlib.Nat.{add-zero, zero-add}
 use native.Mathlib.Omega.{arith}
@@ -25,7 +25,6 @@ use Rattle.rules_pdu.specs.Decoding.{metadata_in, data_in, eof_in, ack_finished_
 use Rattle.rules_pdu.specs.PduLaws.{Fit, Sayable, RoundTrips, SameBytes, CrcChecks, LengthAgrees, HeadersDiffer, WidthsExactly}
 use Rattle.types.specs.declared.Head.{Head}
 use Rattle.types.specs.declared.EntityId.{EntityId}
-use Rattle.types.specs.declared.Framed.TheVariants.{Whole}
 use Rattle.rules_pdu.proofs.Places.{At, at_start, past, part_at, num-at, byte_at, rest_at, whole_length, opened, length-wire}
 use Rattle.rules_pdu.proofs.Spare.{eof-byte, metadata-byte, ack-byte}
 use Rattle.rules_leaves.proofs.Sums.{crc16-lt}
@@ -317,7 +316,7 @@ pdu-frames h filedata tosender body fill f l =
 -- what is reported of them
 pub pdu-reported : (h : Head) (filedata tosender : Bool) (body fill : List ℕ) → Fit h → length body + C h.crc < 65536
     → let s = pdu_bytes h filedata tosender body ++ fill in
-    (framed_in s ≡ Whole (frame_in s)) × ((frame_in s).length ≡ length (pdu_bytes h filedata tosender body))
+    (framed_in s ≡ Some (frame_in s)) × ((frame_in s).length ≡ length (pdu_bytes h filedata tosender body))
 unfolding framed_in frame_in
 pdu-reported h filedata tosender body fill f l =
     let p = pdu-frames h filedata tosender body fill f l in
@@ -325,7 +324,7 @@ pdu-reported h filedata tosender body fill f l =
 
 -- bytes that are a PDU are read by direction, type and body
 pub first_read : {s : List ℕ} {h : Head} {filedata tosender : Bool} {body fill : List ℕ} → Frames s h filedata tosender body fill
-    → decode_first s ≡ pick tosender none (with_head h (said_in filedata h.large body))
+    → decode_first s ≡ pick tosender None (with_head h (said_in filedata h.large body))
 unfolding decode_first
 first_read p =
     simp (well_framed-read p, tosender_read p.opens, head_read p.opens, filedata_read p.opens, large-read p.opens, body-read p)
@@ -339,7 +338,7 @@ alone-read p = rw (eq-eqb _ _ (whole p ∙ add-zero _ ∙ sym (end_read p)))
 -- ---- the bodies, each of any bytes that hold its layout
 
 metadata-read : {s : List ℕ} (h : Head) {closure : Bool} {k n : ℕ} {a b : List ℕ} → At s 0 (layout h.large (metadata closure k n a b))
-    → Sayable h (metadata closure k n a b) → metadata_in h.large s ≡ some (metadata closure k n a b)
+    → Sayable h (metadata closure k n a b) → metadata_in h.large s ≡ Some (metadata closure k n a b)
 unfolding metadata_in
 metadata-read {s} h {closure} {k} {n} {a} {b} p y =
     let z = flag-lt closure in
@@ -354,7 +353,7 @@ metadata-read {s} h {closure} {k} {n} {a} {b} p y =
     simp (la, lb, flags, q, r, eq-eqb _ _ e, num-at (past (past p)) y.1, part_at (past p3), part_at (past p5))
 
 data_read : {s : List ℕ} (h : Head) {o : ℕ} {bs : List ℕ} → At s 0 (layout h.large (file_data o bs)) → o < 2 ^ (8 * F h.large)
-    → data_in h.large s ≡ some (file_data o bs)
+    → data_in h.large s ≡ Some (file_data o bs)
 unfolding data_in
 data_read {s} h {o} {bs} p y =
     let e : length s ≡ F h.large + (length bs + 0) = whole_length p in
@@ -362,7 +361,7 @@ data_read {s} h {o} {bs} p y =
     let q : drop (F h.large) s ≡ bs = rw zero-add at (rest_at (past p)) in
     simp (l, num-at p y, q)
 
-eof-read : {s : List ℕ} (h : Head) {c k n : ℕ} → At s 0 (layout h.large (eof c k n)) → Sayable h (eof c k n) → eof_in h.large s ≡ some (eof c k n)
+eof-read : {s : List ℕ} (h : Head) {c k n : ℕ} → At s 0 (layout h.large (eof c k n)) → Sayable h (eof c k n) → eof_in h.large s ≡ Some (eof c k n)
 unfolding eof_in
 eof-read {s} h {c} {k} {n} p y =
     let b : byte s 1 ≡ c * 16 = eof-byte [] h.large c k n p y.0 in
@@ -371,7 +370,7 @@ eof-read {s} h {c} {k} {n} p y =
     simp (eq-eqb _ _ e, b, q, y.1, num-at (past (past p)) y.2, num-at (past (past (past p))) y.3)
 
 ack-read : {s : List ℕ} (h : Head) {c t : ℕ} → At s 0 (layout h.large (ack_finished c t)) → Sayable h (ack_finished c t)
-    → ack_finished_in s ≡ some (ack_finished c t)
+    → ack_finished_in s ≡ Some (ack_finished c t)
 unfolding ack_finished_in
 ack-read {s} h {c} {t} p y =
     let a : byte s 1 ≡ 0x51 = byte_at (past p) (omega arith) in
@@ -381,7 +380,7 @@ ack-read {s} h {c} {t} p y =
     let e : length s ≡ 3 = whole_length p in
     simp (e, a, b, q, r, y.1)
 
-pub said_read : {s : List ℕ} (h : Head) (m : Said) → At s 0 (layout h.large m) → Sayable h m → said_in (is_file_data m) h.large s ≡ some m
+pub said_read : {s : List ℕ} (h : Head) (m : Said) → At s 0 (layout h.large m) → Sayable h m → said_in (is_file_data m) h.large s ≡ Some m
 unfolding said_in
 said_read {s} h (metadata closure k n a b) p y = let e : byte s 0 ≡ 7 = byte_at p (omega arith) in rw e (metadata-read h p y)
 said_read {s} h (file_data o bs) p y = data_read h p y.0
@@ -404,7 +403,7 @@ round_trip h m f y =
     let b = body_bytes h.large m in
     let l = length-body h m y in
     let e = append-nil (encode h m) in
-    let first : (fill : List ℕ) → decode_first (encode h m ++ fill) ≡ some (record { head = h; said = m })
+    let first : (fill : List ℕ) → decode_first (encode h m ++ fill) ≡ Some (record { head = h; said = m })
     = λ fill. first_read (pdu-frames h (is_file_data m) false b fill f l) ∙ ap (with_head h) (said_read h m (at_start _ _ refl) y) in
     record {
       alone = rw e at (alone-read (pdu-frames h (is_file_data m) false b [] f l) ∙ first []);
@@ -412,10 +411,10 @@ round_trip h m f y =
       reported = λ fill. pdu-reported h (is_file_data m) false b fill f l;
     }
 
-pub read_back : (h : Head) (m : Said) → Fit h → Sayable h m → decode (encode h m) ≡ some (record { head = h; said = m })
+pub read_back : (h : Head) (m : Said) → Fit h → Sayable h m → decode (encode h m) ≡ Some (record { head = h; said = m })
 read_back h m f y = (round_trip h m f y).alone
 
-pub nothing_read : decode [] ≡ none
+pub nothing_read : decode [] ≡ None
 unfolding decode decode_first well_framed length_in id_width_in seq_width_in byte num_at part num
 nothing_read = refl
 
@@ -484,7 +483,7 @@ eof-seen h (file_data o bs) f = rw (filedata_read (pdu-opens h true false (body_
 eof-seen h (eof c k n) f = directive h 4 (behind (layout h.large (eof c k n))) (omega arith) f
 eof-seen h (ack_finished c t) f = directive h 6 (behind (layout h.large (ack_finished c t))) (omega arith) f
 
-pub file_data_lem : (h : Head) (o : ℕ) (bs : List ℕ) → Fit h → Sayable h (file_data o bs) → file_data_of (encode h (file_data o bs)) ≡ some (o, bs)
+pub file_data_lem : (h : Head) (o : ℕ) (bs : List ℕ) → Fit h → Sayable h (file_data o bs) → file_data_of (encode h (file_data o bs)) ≡ Some (o, bs)
 unfolding file_data_of
 file_data_lem h o bs f y = rw (read_back h (file_data o bs) f y)
 

@@ -1,5 +1,6 @@
 -- What a writer puts where bits are spare, by the places of its layout; and what it answers.
 -- Assumes nothing.
+use Rattle.std.specs.Prelude.{None, Option, Some, ℕ}
 use mathlib.Core.Path.{◌≡◌, ap}
 use mathlib.Core.Bool.{Bool, false}
 use mathlib.Core.List.{List, [], ◌∷◌, ◌++◌}
@@ -15,8 +16,6 @@ use Rattle.rules_pdu.specs.Numbers.{H, C}
 use Rattle.rules_pdu.specs.Layout.{Said, metadata, eof, ack_finished, head_bytes, layout, trailer, is_file_data, body_bytes, encode, written_of}
 use Rattle.rules_pdu.specs.PduLaws.{Fit, SpareZero, WrittenExactly}
 use Rattle.types.specs.declared.Head.{Head}
-use Rattle.types.specs.declared.Written.{Written}
-use Rattle.types.specs.declared.Written.TheVariants.{Short, Wrote}
 use Rattle.rules_pdu.proofs.Places.{At, past, byte_at, opened}
 use Rattle.rules_pdu.proofs.Spare.{eof-byte, metadata-byte, ack-byte}
 use Rattle.rules_pdu.proofs.Round.{good-range, pdu-at, pdu-opens, behind-head}
@@ -53,5 +52,5 @@ spare_zero h f = (
 pub written_exactly : WrittenExactly
 unfolding written_of
 written_exactly bs out =
-    let by : Bool → Written = λ b. pick b Short (Wrote (length bs)) in
+    let by : Bool → Option ℕ = λ b. pick b None (Some (length bs)) in
     (λ l. ap by (lt-ltb (length out) (length bs) l), λ l. ap by (le-ltb (length out) (length bs) l))

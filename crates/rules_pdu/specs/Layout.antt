@@ -1,6 +1,6 @@
 -- "PDU bytes (727)": what each PDU says, and its bytes. A table row of document 01 is a line of `layout` or `layout_heard`.
 -- Assumes nothing.
-use Rattle.std.specs.Prelude.{Bool, true, false, List, [], ◌∷◌, ◌++◌, ℕ, ◌+◌, ◌-◌, ◌*◌, ◌%◌, ltb, length}
+use Rattle.std.specs.Prelude.{Bool, true, false, List, [], ◌∷◌, ◌++◌, ℕ, ◌+◌, ◌-◌, ◌*◌, ◌%◌, ltb, length, None, Option, Some}
 use Rattle.basis.specs.Pick.{pick, flag}
 use Rattle.basis.specs.Bytes.{be}
 use Rattle.rules_pdu.specs.Fields.{Field, nat, raw, wire, sizes}
@@ -8,8 +8,6 @@ use Rattle.rules_pdu.specs.Numbers.{H, F, C}
 use Rattle.rules_leaves.specs.Checksum.{crc16}
 use Rattle.types.specs.declared.Head.{Head}
 use Rattle.types.specs.declared.SegmentRequest.{SegmentRequest}
-use Rattle.types.specs.declared.Written.{Written}
-use Rattle.types.specs.declared.Written.TheVariants.{Short, Wrote}
 
 -- ---- what PDUs say
 
@@ -114,5 +112,5 @@ pdu_length h m = H h + sizes (layout h.large m) + C h.crc
 
 -- ---- what a writer answers: the length of the bytes, or that they are longer than the buffer
 
-unfoldable pub written_of : List ℕ → List ℕ → Written
-written_of bs out = pick (ltb (length out) (length bs)) Short (Wrote (length bs))
+unfoldable pub written_of : List ℕ → List ℕ → Option ℕ
+written_of bs out = pick (ltb (length out) (length bs)) None (Some (length bs))

@@ -1,7 +1,6 @@
 -- Byte cases: M1 to M4 and M8 of document 01 and their like written and read, and deliveries with what each comes to.
 -- Assumes nothing.
-use Rattle.std.specs.Prelude.{◌≡◌, refl, Bool, true, false, List, [], ◌∷◌, ◌++◌, map, ℕ, length}
-use Rattle.std.proofs.Math.Option.{none, some}
+use Rattle.std.specs.Prelude.{◌≡◌, refl, Bool, true, false, List, [], ◌∷◌, ◌++◌, map, ℕ, length, Err, None, Ok, Option, Result, Some}
 use Rattle.basis.specs.Bytes.{be, num, part, byte, num_at}
 use Rattle.rules_pdu.specs.Numbers.{good_width}
 use Rattle.rules_leaves.specs.Checksum.{crc16, crc16_byte}
@@ -9,11 +8,11 @@ use Rattle.rules_pdu.specs.Layout.{metadata, file_data, eof, ack_finished, Pdu, 
 use Rattle.rules_pdu.specs.Reading.{bit_in, version_in, file_data_in, to_sender_in, unacknowledged_in, crc_in, large_in, length_in, id_width_in, seq_width_in, head_in, crc_agrees, crc_good, well_framed, frame_in, framed_in, body_in, reserved, are_tlvs, finished_params, finished_in, ack_in, request_count, nak_in, keep_alive_in, directive_in, body_of}
 use Rattle.rules_pdu.specs.Decoding.{metadata_in, data_in, eof_in, ack_finished_in, said_in, decode_first, decode}
 use Rattle.types.specs.declared.Head.{Head}
-use Rattle.types.specs.declared.Framed.{Framed}
-use Rattle.types.specs.declared.Framed.TheVariants.{Malformed as NoFrame, Whole}
+use Rattle.types.specs.declared.Frame.{Frame}
 use Rattle.types.specs.declared.Meaning.TheVariants.{Finished, AckOfEof, Nak, KeepAlive}
-use Rattle.types.specs.declared.Body.{Body}
-use Rattle.types.specs.declared.Body.TheVariants.{Malformed, CantProcess, Means}
+use Rattle.types.specs.declared.Meaning.{Meaning}
+use Rattle.types.specs.declared.ReadError.{ReadError}
+use Rattle.types.specs.declared.ReadError.TheVariants.{Malformed, CantProcess}
 
 -- ---- a sender's PDUs
 
@@ -61,7 +60,7 @@ pub written : map bytes_of_pdu sent ≡ on_the_link
 unfolding be head_bytes trailer pdu_bytes body_bytes encode crc16 crc16_byte
 written = refl
 
-pub read : map decode on_the_link ≡ map some sent
+pub read : map decode on_the_link ≡ map Some sent
 unfolding num part byte num_at good_width bit_in version_in file_data_in to_sender_in unacknowledged_in crc_in large_in length_in id_width_in seq_width_in head_in body_in crc_agrees crc_good well_framed reserved metadata_in data_in eof_in ack_finished_in said_in decode_first decode crc16 crc16_byte
 read = refl
 
@@ -82,7 +81,7 @@ bits_set = (
     ∷ (0x20 ∷ 0x00 ∷ 0x03 ∷ 0x00 ∷ 0x01 ∷ 0x07 ∷ 0x02 ∷ 0x06 ∷ 0x51 ∷ 0x0D ∷ [], record { head = plain false; said = ack_finished 0 1 })
     ∷ []
 
-pub unjudged : map (λ (c : List ℕ × Pdu). decode c.0) bits_set ≡ map (λ (c : List ℕ × Pdu). some c.1) bits_set
+pub unjudged : map (λ (c : List ℕ × Pdu). decode c.0) bits_set ≡ map (λ (c : List ℕ × Pdu). Some c.1) bits_set
 unfolding num part byte num_at good_width bit_in version_in file_data_in to_sender_in unacknowledged_in crc_in large_in length_in id_width_in seq_width_in head_in body_in crc_agrees crc_good well_framed reserved metadata_in data_in eof_in ack_finished_in said_in decode_first decode
 unjudged = refl
 
@@ -90,11 +89,11 @@ unjudged = refl
 abbrev pub filled : List (List ℕ)
 filled = map (λ (s : List ℕ). s ++ (0x55 ∷ 0x00 ∷ [])) on_the_link
 
-pub read_first : map decode_first filled ≡ map some sent
+pub read_first : map decode_first filled ≡ map Some sent
 unfolding num part byte num_at good_width bit_in version_in file_data_in to_sender_in unacknowledged_in crc_in large_in length_in id_width_in seq_width_in head_in body_in crc_agrees crc_good well_framed reserved metadata_in data_in eof_in ack_finished_in said_in decode_first crc16 crc16_byte
 read_first = refl
 
-pub not_alone : map decode filled ≡ map (λ (s : List ℕ). none) filled
+pub not_alone : map decode filled ≡ map (λ (s : List ℕ). None) filled
 unfolding num part byte num_at length_in id_width_in seq_width_in decode
 not_alone = refl
 
@@ -112,94 +111,94 @@ no_pdu =
     ∷ (0x20 ∷ 0x00 ∷ 0x03 ∷ 0x00 ∷ 0x01 ∷ 0x07 ∷ 0x02 ∷ 0x06 ∷ 0x51 ∷ 0xD1 ∷ [])
     ∷ []
 
-pub unread : map decode no_pdu ≡ map (λ (s : List ℕ). none) no_pdu
+pub unread : map decode no_pdu ≡ map (λ (s : List ℕ). None) no_pdu
 unfolding num part byte num_at good_width bit_in version_in file_data_in to_sender_in unacknowledged_in crc_in large_in length_in id_width_in seq_width_in head_in body_in crc_agrees crc_good well_framed reserved metadata_in data_in eof_in ack_finished_in said_in decode_first decode
 unread = refl
 
 -- ---- deliveries, and what each comes to
 
-abbrev pub in_frame : Framed → List ℕ → Body
-in_frame NoFrame b = Malformed
-in_frame (Whole f) b = body_of f b
+abbrev pub in_frame : Option Frame → List ℕ → Result Meaning ReadError
+in_frame None b = Err Malformed
+in_frame (Some f) b = body_of f b
 
-abbrev pub comes_to : List ℕ → Body
+abbrev pub comes_to : List ℕ → Result Meaning ReadError
 comes_to s = in_frame (framed_in s) (body_in s)
 
 -- a directive towards the sender, widths 1
 abbrev pub told : List ℕ → List ℕ
 told b = 0x28 ∷ 0x00 ∷ length b ∷ 0x00 ∷ 0x01 ∷ 0x07 ∷ 0x02 ∷ b
 
-abbrev pub done : ℕ → ℕ → ℕ → Body
-done c d s = Means (Finished (record { condition = c; delivery = d; status = s }))
+abbrev pub done : ℕ → ℕ → ℕ → Result Meaning ReadError
+done c d s = Ok (Finished (record { condition = c; delivery = d; status = s }))
 
-abbrev pub deliveries : List (List ℕ × Body)
+abbrev pub deliveries : List (List ℕ × Result Meaning ReadError)
 deliveries =
     -- 6 ACK: of EOF, also with its spare bits set; of Finished; subtype 1 for EOF, 0 for Finished; of a NAK; conditions 12 and 13; a byte less, a byte more
-    (told (0x06 ∷ 0x40 ∷ 0x01 ∷ []), Means AckOfEof)
-    ∷ (told (0x06 ∷ 0x40 ∷ 0xFF ∷ []), Means AckOfEof)
-    ∷ (told (0x06 ∷ 0x51 ∷ 0x01 ∷ []), CantProcess)
-    ∷ (told (0x06 ∷ 0x41 ∷ 0x01 ∷ []), Malformed)
-    ∷ (told (0x06 ∷ 0x50 ∷ 0x01 ∷ []), Malformed)
-    ∷ (told (0x06 ∷ 0x80 ∷ 0x01 ∷ []), Malformed)
-    ∷ (told (0x06 ∷ 0x40 ∷ 0xC1 ∷ []), Malformed)
-    ∷ (told (0x06 ∷ 0x51 ∷ 0xD1 ∷ []), Malformed)
-    ∷ (told (0x06 ∷ 0x40 ∷ []), Malformed)
-    ∷ (told (0x06 ∷ 0x40 ∷ 0x01 ∷ 0x00 ∷ []), Malformed)
+    (told (0x06 ∷ 0x40 ∷ 0x01 ∷ []), Ok AckOfEof)
+    ∷ (told (0x06 ∷ 0x40 ∷ 0xFF ∷ []), Ok AckOfEof)
+    ∷ (told (0x06 ∷ 0x51 ∷ 0x01 ∷ []), (Err CantProcess))
+    ∷ (told (0x06 ∷ 0x41 ∷ 0x01 ∷ []), (Err Malformed))
+    ∷ (told (0x06 ∷ 0x50 ∷ 0x01 ∷ []), (Err Malformed))
+    ∷ (told (0x06 ∷ 0x80 ∷ 0x01 ∷ []), (Err Malformed))
+    ∷ (told (0x06 ∷ 0x40 ∷ 0xC1 ∷ []), (Err Malformed))
+    ∷ (told (0x06 ∷ 0x51 ∷ 0xD1 ∷ []), (Err Malformed))
+    ∷ (told (0x06 ∷ 0x40 ∷ []), (Err Malformed))
+    ∷ (told (0x06 ∷ 0x40 ∷ 0x01 ∷ 0x00 ∷ []), (Err Malformed))
     -- 5 Finished: spare bit set; TLVs of types 1 and 6; of type 2; a length that doesn't close, a lone type; condition 13; no second byte
     ∷ (told (0x05 ∷ 0x0E ∷ []), done 0 1 2)
     ∷ (told (0x05 ∷ 0xB0 ∷ 0x06 ∷ 0x02 ∷ 0x05 ∷ 0x06 ∷ 0x01 ∷ 0x00 ∷ []), done 11 0 0)
-    ∷ (told (0x05 ∷ 0x00 ∷ 0x02 ∷ 0x00 ∷ []), Malformed)
-    ∷ (told (0x05 ∷ 0x00 ∷ 0x01 ∷ 0x02 ∷ 0x05 ∷ []), Malformed)
-    ∷ (told (0x05 ∷ 0x00 ∷ 0x06 ∷ []), Malformed)
-    ∷ (told (0x05 ∷ 0xD0 ∷ []), Malformed)
-    ∷ (told (0x05 ∷ []), Malformed)
+    ∷ (told (0x05 ∷ 0x00 ∷ 0x02 ∷ 0x00 ∷ []), (Err Malformed))
+    ∷ (told (0x05 ∷ 0x00 ∷ 0x01 ∷ 0x02 ∷ 0x05 ∷ []), (Err Malformed))
+    ∷ (told (0x05 ∷ 0x00 ∷ 0x06 ∷ []), (Err Malformed))
+    ∷ (told (0x05 ∷ 0xD0 ∷ []), (Err Malformed))
+    ∷ (told (0x05 ∷ []), (Err Malformed))
     -- 8 NAK: M9's, read in a frame of its own; no pair; half a pair; no scope end
-    ∷ (told (0x08 ∷ 0 ∷ 0 ∷ 0 ∷ 0 ∷ 0 ∷ 0 ∷ 0 ∷ 5 ∷ 0 ∷ 0 ∷ 0 ∷ 0 ∷ 0 ∷ 0 ∷ 0 ∷ 4 ∷ 0 ∷ 0 ∷ 0 ∷ 0 ∷ 0 ∷ 0 ∷ 0 ∷ 0 ∷ []), Means (Nak 2))
-    ∷ (told (0x08 ∷ 0 ∷ 0 ∷ 0 ∷ 0 ∷ 0 ∷ 0 ∷ 0 ∷ 5 ∷ []), Means (Nak 0))
-    ∷ (told (0x08 ∷ 0 ∷ 0 ∷ 0 ∷ 0 ∷ 0 ∷ 0 ∷ 0 ∷ 5 ∷ 0 ∷ 0 ∷ 0 ∷ 0 ∷ []), Malformed)
-    ∷ (told (0x08 ∷ 0 ∷ 0 ∷ 0 ∷ 0 ∷ []), Malformed)
+    ∷ (told (0x08 ∷ 0 ∷ 0 ∷ 0 ∷ 0 ∷ 0 ∷ 0 ∷ 0 ∷ 5 ∷ 0 ∷ 0 ∷ 0 ∷ 0 ∷ 0 ∷ 0 ∷ 0 ∷ 4 ∷ 0 ∷ 0 ∷ 0 ∷ 0 ∷ 0 ∷ 0 ∷ 0 ∷ 0 ∷ []), Ok (Nak 2))
+    ∷ (told (0x08 ∷ 0 ∷ 0 ∷ 0 ∷ 0 ∷ 0 ∷ 0 ∷ 0 ∷ 5 ∷ []), Ok (Nak 0))
+    ∷ (told (0x08 ∷ 0 ∷ 0 ∷ 0 ∷ 0 ∷ 0 ∷ 0 ∷ 0 ∷ 5 ∷ 0 ∷ 0 ∷ 0 ∷ 0 ∷ []), (Err Malformed))
+    ∷ (told (0x08 ∷ 0 ∷ 0 ∷ 0 ∷ 0 ∷ []), (Err Malformed))
     -- 12 Keep Alive; a byte less
-    ∷ (told (0x0C ∷ 0x00 ∷ 0x01 ∷ 0x00 ∷ 0x02 ∷ []), Means (KeepAlive 65538))
-    ∷ (told (0x0C ∷ 0x00 ∷ 0x01 ∷ 0x00 ∷ []), Malformed)
+    ∷ (told (0x0C ∷ 0x00 ∷ 0x01 ∷ 0x00 ∷ 0x02 ∷ []), Ok (KeepAlive 65538))
+    ∷ (told (0x0C ∷ 0x00 ∷ 0x01 ∷ 0x00 ∷ []), (Err Malformed))
     -- bodies unread: 4, 7, 9, file data; another code; none
-    ∷ (told (0x04 ∷ []), CantProcess)
-    ∷ (told (0x07 ∷ []), CantProcess)
-    ∷ (told (0x09 ∷ []), CantProcess)
-    ∷ (0x38 ∷ 0x00 ∷ 0x00 ∷ 0x00 ∷ 0x01 ∷ 0x07 ∷ 0x02 ∷ [], CantProcess)
-    ∷ (told (0x0A ∷ []), Malformed)
-    ∷ (told [], Malformed)
+    ∷ (told (0x04 ∷ []), (Err CantProcess))
+    ∷ (told (0x07 ∷ []), (Err CantProcess))
+    ∷ (told (0x09 ∷ []), (Err CantProcess))
+    ∷ (0x38 ∷ 0x00 ∷ 0x00 ∷ 0x00 ∷ 0x01 ∷ 0x07 ∷ 0x02 ∷ [], (Err CantProcess))
+    ∷ (told (0x0A ∷ []), (Err Malformed))
+    ∷ (told [], (Err Malformed))
     -- towards the receiver: an EOF, unread; an ACK of Finished; an ACK of EOF, and one that is Malformed all the same
-    ∷ (0x24 ∷ 0x00 ∷ 0x01 ∷ 0x00 ∷ 0x01 ∷ 0x07 ∷ 0x02 ∷ 0x04 ∷ [], CantProcess)
-    ∷ (0x20 ∷ 0x00 ∷ 0x03 ∷ 0x00 ∷ 0x01 ∷ 0x07 ∷ 0x02 ∷ 0x06 ∷ 0x51 ∷ 0x01 ∷ [], CantProcess)
-    ∷ (0x20 ∷ 0x00 ∷ 0x03 ∷ 0x00 ∷ 0x01 ∷ 0x07 ∷ 0x02 ∷ 0x06 ∷ 0x40 ∷ 0x01 ∷ [], CantProcess)
-    ∷ (0x20 ∷ 0x00 ∷ 0x03 ∷ 0x00 ∷ 0x01 ∷ 0x07 ∷ 0x02 ∷ 0x06 ∷ 0x41 ∷ 0x01 ∷ [], Malformed)
+    ∷ (0x24 ∷ 0x00 ∷ 0x01 ∷ 0x00 ∷ 0x01 ∷ 0x07 ∷ 0x02 ∷ 0x04 ∷ [], (Err CantProcess))
+    ∷ (0x20 ∷ 0x00 ∷ 0x03 ∷ 0x00 ∷ 0x01 ∷ 0x07 ∷ 0x02 ∷ 0x06 ∷ 0x51 ∷ 0x01 ∷ [], (Err CantProcess))
+    ∷ (0x20 ∷ 0x00 ∷ 0x03 ∷ 0x00 ∷ 0x01 ∷ 0x07 ∷ 0x02 ∷ 0x06 ∷ 0x40 ∷ 0x01 ∷ [], (Err CantProcess))
+    ∷ (0x20 ∷ 0x00 ∷ 0x03 ∷ 0x00 ∷ 0x01 ∷ 0x07 ∷ 0x02 ∷ 0x06 ∷ 0x41 ∷ 0x01 ∷ [], (Err Malformed))
     -- mode bit, segmentation control and segment metadata flag set; versions 2 and 3; an id width of 3;
     -- a length one more, one less; a header cut short
-    ∷ (0x2C ∷ 0x00 ∷ 0x03 ∷ 0x88 ∷ 0x01 ∷ 0x07 ∷ 0x02 ∷ 0x06 ∷ 0x40 ∷ 0x01 ∷ [], Means AckOfEof)
-    ∷ (0x48 ∷ 0x00 ∷ 0x03 ∷ 0x00 ∷ 0x01 ∷ 0x07 ∷ 0x02 ∷ 0x06 ∷ 0x40 ∷ 0x01 ∷ [], Malformed)
-    ∷ (0x68 ∷ 0x00 ∷ 0x03 ∷ 0x00 ∷ 0x01 ∷ 0x07 ∷ 0x02 ∷ 0x06 ∷ 0x40 ∷ 0x01 ∷ [], Malformed)
-    ∷ (0x28 ∷ 0x00 ∷ 0x03 ∷ 0x20 ∷ 0x00 ∷ 0x00 ∷ 0x01 ∷ 0x07 ∷ 0x00 ∷ 0x00 ∷ 0x02 ∷ 0x06 ∷ 0x40 ∷ 0x01 ∷ [], Malformed)
-    ∷ (0x28 ∷ 0x00 ∷ 0x04 ∷ 0x00 ∷ 0x01 ∷ 0x07 ∷ 0x02 ∷ 0x06 ∷ 0x40 ∷ 0x01 ∷ [], Malformed)
-    ∷ (0x28 ∷ 0x00 ∷ 0x02 ∷ 0x00 ∷ 0x01 ∷ 0x07 ∷ 0x02 ∷ 0x06 ∷ 0x40 ∷ 0x01 ∷ [], Malformed)
-    ∷ (0x28 ∷ 0x00 ∷ 0x00 ∷ [], Malformed)
+    ∷ (0x2C ∷ 0x00 ∷ 0x03 ∷ 0x88 ∷ 0x01 ∷ 0x07 ∷ 0x02 ∷ 0x06 ∷ 0x40 ∷ 0x01 ∷ [], Ok AckOfEof)
+    ∷ (0x48 ∷ 0x00 ∷ 0x03 ∷ 0x00 ∷ 0x01 ∷ 0x07 ∷ 0x02 ∷ 0x06 ∷ 0x40 ∷ 0x01 ∷ [], (Err Malformed))
+    ∷ (0x68 ∷ 0x00 ∷ 0x03 ∷ 0x00 ∷ 0x01 ∷ 0x07 ∷ 0x02 ∷ 0x06 ∷ 0x40 ∷ 0x01 ∷ [], (Err Malformed))
+    ∷ (0x28 ∷ 0x00 ∷ 0x03 ∷ 0x20 ∷ 0x00 ∷ 0x00 ∷ 0x01 ∷ 0x07 ∷ 0x00 ∷ 0x00 ∷ 0x02 ∷ 0x06 ∷ 0x40 ∷ 0x01 ∷ [], (Err Malformed))
+    ∷ (0x28 ∷ 0x00 ∷ 0x04 ∷ 0x00 ∷ 0x01 ∷ 0x07 ∷ 0x02 ∷ 0x06 ∷ 0x40 ∷ 0x01 ∷ [], (Err Malformed))
+    ∷ (0x28 ∷ 0x00 ∷ 0x02 ∷ 0x00 ∷ 0x01 ∷ 0x07 ∷ 0x02 ∷ 0x06 ∷ 0x40 ∷ 0x01 ∷ [], (Err Malformed))
+    ∷ (0x28 ∷ 0x00 ∷ 0x00 ∷ [], (Err Malformed))
     -- with CRC: right, wrong; file data with a CRC and nothing else; no room for one
-    ∷ (0x2A ∷ 0x00 ∷ 0x05 ∷ 0x00 ∷ 0x01 ∷ 0x07 ∷ 0x02 ∷ 0x06 ∷ 0x40 ∷ 0x01 ∷ 0x64 ∷ 0x1A ∷ [], Means AckOfEof)
-    ∷ (0x2A ∷ 0x00 ∷ 0x05 ∷ 0x00 ∷ 0x01 ∷ 0x07 ∷ 0x02 ∷ 0x06 ∷ 0x40 ∷ 0x01 ∷ 0x64 ∷ 0x1B ∷ [], Malformed)
-    ∷ (0x32 ∷ 0x00 ∷ 0x02 ∷ 0x00 ∷ 0x01 ∷ 0x07 ∷ 0x02 ∷ 0x02 ∷ 0xC6 ∷ [], CantProcess)
-    ∷ (0x32 ∷ 0x00 ∷ 0x01 ∷ 0x00 ∷ 0x01 ∷ 0x07 ∷ 0x02 ∷ 0x02 ∷ [], Malformed)
+    ∷ (0x2A ∷ 0x00 ∷ 0x05 ∷ 0x00 ∷ 0x01 ∷ 0x07 ∷ 0x02 ∷ 0x06 ∷ 0x40 ∷ 0x01 ∷ 0x64 ∷ 0x1A ∷ [], Ok AckOfEof)
+    ∷ (0x2A ∷ 0x00 ∷ 0x05 ∷ 0x00 ∷ 0x01 ∷ 0x07 ∷ 0x02 ∷ 0x06 ∷ 0x40 ∷ 0x01 ∷ 0x64 ∷ 0x1B ∷ [], (Err Malformed))
+    ∷ (0x32 ∷ 0x00 ∷ 0x02 ∷ 0x00 ∷ 0x01 ∷ 0x07 ∷ 0x02 ∷ 0x02 ∷ 0xC6 ∷ [], (Err CantProcess))
+    ∷ (0x32 ∷ 0x00 ∷ 0x01 ∷ 0x00 ∷ 0x01 ∷ 0x07 ∷ 0x02 ∷ 0x02 ∷ [], (Err Malformed))
     -- with fill behind: an ACK, also one a byte short that the fill would complete, and one a byte too long; a Finished whose TLV the fill would close; a NAK of one pair with a second
     -- in the fill, and one of half a pair that the fill would complete; an EOF, unread; only fill
-    ∷ (0x28 ∷ 0x00 ∷ 0x03 ∷ 0x00 ∷ 0x01 ∷ 0x07 ∷ 0x02 ∷ 0x06 ∷ 0x40 ∷ 0x01 ∷ 0x55 ∷ 0x55 ∷ [], Means AckOfEof)
-    ∷ (0x28 ∷ 0x00 ∷ 0x02 ∷ 0x00 ∷ 0x01 ∷ 0x07 ∷ 0x02 ∷ 0x06 ∷ 0x40 ∷ 0x01 ∷ 0x55 ∷ 0x55 ∷ [], Malformed)
-    ∷ (0x28 ∷ 0x00 ∷ 0x04 ∷ 0x00 ∷ 0x01 ∷ 0x07 ∷ 0x02 ∷ 0x06 ∷ 0x40 ∷ 0x01 ∷ 0x55 ∷ 0x55 ∷ [], Malformed)
-    ∷ (told (0x05 ∷ 0x00 ∷ 0x06 ∷ 0x01 ∷ []) ++ (0x55 ∷ []), Malformed)
-    ∷ (told (0x08 ∷ 0 ∷ 0 ∷ 0 ∷ 0 ∷ 0 ∷ 0 ∷ 0 ∷ 5 ∷ 0 ∷ 0 ∷ 0 ∷ 0 ∷ 0 ∷ 0 ∷ 0 ∷ 4 ∷ []) ++ (0 ∷ 0 ∷ 0 ∷ 0 ∷ 0 ∷ 0 ∷ 0 ∷ 2 ∷ []), Means (Nak 1))
-    ∷ (told (0x08 ∷ 0 ∷ 0 ∷ 0 ∷ 0 ∷ 0 ∷ 0 ∷ 0 ∷ 5 ∷ 0 ∷ 0 ∷ 0 ∷ 0 ∷ []) ++ (0 ∷ 0 ∷ 0 ∷ 4 ∷ []), Malformed)
-    ∷ (told (0x04 ∷ []) ++ (0x00 ∷ 0x00 ∷ []), CantProcess)
-    ∷ (0x55 ∷ 0x55 ∷ 0x55 ∷ 0x55 ∷ 0x55 ∷ 0x55 ∷ 0x55 ∷ 0x55 ∷ 0x55 ∷ 0x55 ∷ [], Malformed)
+    ∷ (0x28 ∷ 0x00 ∷ 0x03 ∷ 0x00 ∷ 0x01 ∷ 0x07 ∷ 0x02 ∷ 0x06 ∷ 0x40 ∷ 0x01 ∷ 0x55 ∷ 0x55 ∷ [], Ok AckOfEof)
+    ∷ (0x28 ∷ 0x00 ∷ 0x02 ∷ 0x00 ∷ 0x01 ∷ 0x07 ∷ 0x02 ∷ 0x06 ∷ 0x40 ∷ 0x01 ∷ 0x55 ∷ 0x55 ∷ [], (Err Malformed))
+    ∷ (0x28 ∷ 0x00 ∷ 0x04 ∷ 0x00 ∷ 0x01 ∷ 0x07 ∷ 0x02 ∷ 0x06 ∷ 0x40 ∷ 0x01 ∷ 0x55 ∷ 0x55 ∷ [], (Err Malformed))
+    ∷ (told (0x05 ∷ 0x00 ∷ 0x06 ∷ 0x01 ∷ []) ++ (0x55 ∷ []), (Err Malformed))
+    ∷ (told (0x08 ∷ 0 ∷ 0 ∷ 0 ∷ 0 ∷ 0 ∷ 0 ∷ 0 ∷ 5 ∷ 0 ∷ 0 ∷ 0 ∷ 0 ∷ 0 ∷ 0 ∷ 0 ∷ 4 ∷ []) ++ (0 ∷ 0 ∷ 0 ∷ 0 ∷ 0 ∷ 0 ∷ 0 ∷ 2 ∷ []), Ok (Nak 1))
+    ∷ (told (0x08 ∷ 0 ∷ 0 ∷ 0 ∷ 0 ∷ 0 ∷ 0 ∷ 0 ∷ 5 ∷ 0 ∷ 0 ∷ 0 ∷ 0 ∷ []) ++ (0 ∷ 0 ∷ 0 ∷ 4 ∷ []), (Err Malformed))
+    ∷ (told (0x04 ∷ []) ++ (0x00 ∷ 0x00 ∷ []), (Err CantProcess))
+    ∷ (0x55 ∷ 0x55 ∷ 0x55 ∷ 0x55 ∷ 0x55 ∷ 0x55 ∷ 0x55 ∷ 0x55 ∷ 0x55 ∷ 0x55 ∷ [], (Err Malformed))
     -- with CRC and fill: the CRC at the data field's end, and the same bytes with it at the delivery's
-    ∷ (0x2A ∷ 0x00 ∷ 0x05 ∷ 0x00 ∷ 0x01 ∷ 0x07 ∷ 0x02 ∷ 0x06 ∷ 0x40 ∷ 0x01 ∷ 0x64 ∷ 0x1A ∷ 0x00 ∷ 0x00 ∷ [], Means AckOfEof)
-    ∷ (0x2A ∷ 0x00 ∷ 0x05 ∷ 0x00 ∷ 0x01 ∷ 0x07 ∷ 0x02 ∷ 0x06 ∷ 0x40 ∷ 0x01 ∷ 0x00 ∷ 0x00 ∷ 0x64 ∷ 0x1A ∷ [], Malformed)
+    ∷ (0x2A ∷ 0x00 ∷ 0x05 ∷ 0x00 ∷ 0x01 ∷ 0x07 ∷ 0x02 ∷ 0x06 ∷ 0x40 ∷ 0x01 ∷ 0x64 ∷ 0x1A ∷ 0x00 ∷ 0x00 ∷ [], Ok AckOfEof)
+    ∷ (0x2A ∷ 0x00 ∷ 0x05 ∷ 0x00 ∷ 0x01 ∷ 0x07 ∷ 0x02 ∷ 0x06 ∷ 0x40 ∷ 0x01 ∷ 0x00 ∷ 0x00 ∷ 0x64 ∷ 0x1A ∷ [], (Err Malformed))
     ∷ []
 
 -- "report how many bytes belong to the PDU": by its header, whatever stands behind; a PDU with a CRC, and one of the longest data field
@@ -214,6 +213,6 @@ pub belong : map (λ (d : List ℕ × ℕ). (frame_in d.0).length) belonging ≡
 unfolding num part byte num_at length_in id_width_in seq_width_in frame_in
 belong = refl
 
-pub delivered : map (λ (d : List ℕ × Body). comes_to d.0) deliveries ≡ map (λ (d : List ℕ × Body). d.1) deliveries
+pub delivered : map (λ (d : List ℕ × Result Meaning ReadError). comes_to d.0) deliveries ≡ map (λ (d : List ℕ × Result Meaning ReadError). d.1) deliveries
 unfolding num part byte num_at good_width bit_in version_in file_data_in to_sender_in unacknowledged_in crc_in large_in length_in id_width_in seq_width_in head_in body_in crc_agrees crc_good well_framed frame_in framed_in crc16 crc16_byte reserved are_tlvs finished_params finished_in ack_in request_count nak_in keep_alive_in directive_in body_of
 delivered = refl

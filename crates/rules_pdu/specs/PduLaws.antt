@@ -1,8 +1,7 @@
 -- What follows from the layouts and their readings: reading what was written gives its meaning back.
 -- The other way round, only what was written is read. Proofs: proofs/Round.antt, Writes.antt, Heard.antt, ExactBody.antt, Routed.antt, ExactFrame.antt, ExactSaid.antt, Own.antt.
 -- Assumes nothing.
-use Rattle.std.specs.Prelude.{◌≡◌, ◌↔◌, ◌⊎◌, Bool, true, false, List, [], ◌∷◌, ◌++◌, ℕ, ◌+◌, ◌-◌, ◌*◌, ◌/◌, ◌%◌, ◌^◌, ◌<◌, ◌≤◌, eqb, length, take, set}
-use Rattle.std.proofs.Math.Option.{some, none}
+use Rattle.std.specs.Prelude.{◌≡◌, ◌↔◌, ◌⊎◌, Bool, true, false, List, [], ◌∷◌, ◌++◌, ℕ, ◌+◌, ◌-◌, ◌*◌, ◌/◌, ◌%◌, ◌^◌, ◌<◌, ◌≤◌, eqb, length, take, set, Err, None, Ok, Result, Some}
 use Rattle.basis.specs.Pick.{pick, flag}
 use Rattle.basis.specs.Bytes.{byte, num_at, Bytes}
 use Rattle.rules_pdu.specs.Fields.{wire}
@@ -13,13 +12,11 @@ use Rattle.rules_pdu.specs.Reading.{reserved, length_in, end_in, frame_in, frame
 use Rattle.rules_pdu.specs.Decoding.{decode_first, decode}
 use Rattle.types.specs.declared.Head.{Head}
 use Rattle.types.specs.declared.Frame.{Frame}
-use Rattle.types.specs.declared.Framed.TheVariants.{Malformed as NoFrame, Whole}
 use Rattle.types.specs.declared.SegmentRequest.{SegmentRequest}
-use Rattle.types.specs.declared.Written.TheVariants.{Short, Wrote}
 use Rattle.types.specs.declared.Meaning.{Meaning}
 use Rattle.types.specs.declared.Meaning.TheVariants.{Finished, AckOfEof, Nak, KeepAlive}
-use Rattle.types.specs.declared.Body.{Body}
-use Rattle.types.specs.declared.Body.TheVariants.{Malformed, CantProcess, Means}
+use Rattle.types.specs.declared.ReadError.{ReadError}
+use Rattle.types.specs.declared.ReadError.TheVariants.{Malformed, CantProcess}
 
 -- ---- what can be written
 
@@ -58,9 +55,9 @@ Hearable large (keep_alive p) = p < 2 ^ (8 * F large)
 -- LAW round_trip: for every meaning that a sender can write, reading what was written gives the meaning back: alone, and with anything behind it, its own
 -- length reported.
 pub record RoundTrip (h : Head) (m : Said) : Type 0 where
-  pub alone : decode (encode h m) ≡ some (record { head = h; said = m })
-  pub first : (fill : List ℕ) → decode_first (encode h m ++ fill) ≡ some (record { head = h; said = m })
-  pub reported : (fill : List ℕ) → let s = encode h m ++ fill in (framed_in s ≡ Whole (frame_in s)) × ((frame_in s).length ≡ length (encode h m))
+  pub alone : decode (encode h m) ≡ Some (record { head = h; said = m })
+  pub first : (fill : List ℕ) → decode_first (encode h m ++ fill) ≡ Some (record { head = h; said = m })
+  pub reported : (fill : List ℕ) → let s = encode h m ++ fill in (framed_in s ≡ Some (frame_in s)) × ((frame_in s).length ≡ length (encode h m))
 
 abbrev pub RoundTrips : Type 0
 RoundTrips = (h : Head) (m : Said) → Fit h → Sayable h m → RoundTrip h m
@@ -97,7 +94,7 @@ SpareZero =
 
 -- LAW written_exactly: a writer's answer is that the buffer is too small exactly if the bytes are longer than it, and else their number.
 abbrev pub WrittenExactly : Type 0
-WrittenExactly = (bs out : List ℕ) → (length out < length bs → written_of bs out ≡ Short) × (length bs ≤ length out → written_of bs out ≡ Wrote (length bs))
+WrittenExactly = (bs out : List ℕ) → (length out < length bs → written_of bs out ≡ None) × (length bs ≤ length out → written_of bs out ≡ Some (length bs))
 
 -- LAW headers_differ: two different headers of equal widths never have the same bytes.
 abbrev pub HeadersDiffer : Type 0
@@ -129,10 +126,10 @@ abbrev pub HeardRead : Type 0
 HeardRead =
     (h : Head) (m : Heard) (fill : List ℕ) → Fit h → Hearable h.large m → length (wire (layout_heard h.large m)) + C h.crc < 65536
     → let s = encode_heard h m ++ fill in
-    (framed_in s ≡ Whole (frame_in s))
+    (framed_in s ≡ Some (frame_in s))
     × ((frame_in s).head ≡ h)
     × ((frame_in s).length ≡ length (encode_heard h m))
-    × (body_of (frame_in s) (body_in s) ≡ Means (meaning_of m))
+    × (body_of (frame_in s) (body_in s) ≡ Ok (meaning_of m))
     × (requests_from (length (requests_of m)) h.large s (first_pair h) ≡ requests_of m)
 
 -- a run of TLVs, as a grammar: type 1 or 6, a length, as many bytes
@@ -156,27 +153,27 @@ cleared b =
     b)))
 
 -- what a body comes to by the layouts: a peer's meaning, an ACK of Finished, or one of the three that stay unread
-pub data ByLayout (large : Bool) (b : List ℕ) : Body → Type 0 where
-  heard : (m : Heard) → Hearable large m → wire (layout_heard large m) ≡ cleared b → ByLayout large b (Means (meaning_of m))
-  of_finished : (c t : ℕ) → c < 16 → t < 4 → reserved c ≡ false → wire (layout large (ack_finished c t)) ≡ cleared b → ByLayout large b CantProcess
-  unread : (code : ℕ) (rest : List ℕ) → (code ≡ 4) ⊎ (code ≡ 7) ⊎ (code ≡ 9) → code ∷ rest ≡ b → ByLayout large b CantProcess
+pub data ByLayout (large : Bool) (b : List ℕ) : Result Meaning ReadError → Type 0 where
+  heard : (m : Heard) → Hearable large m → wire (layout_heard large m) ≡ cleared b → ByLayout large b (Ok (meaning_of m))
+  of_finished : (c t : ℕ) → c < 16 → t < 4 → reserved c ≡ false → wire (layout large (ack_finished c t)) ≡ cleared b → ByLayout large b (Err CantProcess)
+  unread : (code : ℕ) (rest : List ℕ) → (code ≡ 4) ⊎ (code ≡ 7) ⊎ (code ≡ 9) → code ∷ rest ≡ b → ByLayout large b (Err CantProcess)
 
 -- LAW body_exactly: a body is Malformed exactly if the layouts give it nothing, and else comes to what they give.
 abbrev pub BodyExactly : Type 0
 BodyExactly =
     (large : Bool) (b : List ℕ) → Bytes b
-    → ((directive_in large (byte b 0) b ≡ Malformed) ↔ ((r : Body) → ByLayout large b r → ⊥))
-    × ((r : Body) → ByLayout large b r → directive_in large (byte b 0) b ≡ r)
+    → ((directive_in large (byte b 0) b ≡ (Err Malformed)) ↔ ((r : Result Meaning ReadError) → ByLayout large b r → ⊥))
+    × ((r : Result Meaning ReadError) → ByLayout large b r → directive_in large (byte b 0) b ≡ r)
 
 -- LAW routed_exactly: file data is 21; a directive is Malformed exactly if the layouts give its body nothing, and else comes to what they give
 -- towards the sender, and to 21 towards the receiver.
 abbrev pub RoutedExactly : Type 0
 RoutedExactly =
     (f : Frame) (b : List ℕ) → Bytes b
-    → (f.filedata ≡ true → body_of f b ≡ CantProcess)
-    × (f.filedata ≡ false → (body_of f b ≡ Malformed) ↔ ((r : Body) → ByLayout f.head.large b r → ⊥))
-    × (f.filedata ≡ false → (r : Body) → ByLayout f.head.large b r
-    → (f.tosender ≡ true → body_of f b ≡ r) × (f.tosender ≡ false → body_of f b ≡ CantProcess))
+    → (f.filedata ≡ true → body_of f b ≡ (Err CantProcess))
+    × (f.filedata ≡ false → (body_of f b ≡ (Err Malformed)) ↔ ((r : Result Meaning ReadError) → ByLayout f.head.large b r → ⊥))
+    × (f.filedata ≡ false → (r : Result Meaning ReadError) → ByLayout f.head.large b r
+    → (f.tosender ≡ true → body_of f b ≡ r) × (f.tosender ≡ false → body_of f b ≡ (Err CantProcess)))
 
 -- LAW widths_exactly: "width 1, 2, 4 or 8 bytes"
 abbrev pub WidthsExactly : Type 0
@@ -207,10 +204,10 @@ pub record IsPdu (s : List ℕ) (f : Frame) (body fill : List ℕ) : Type 0 wher
 abbrev pub FrameExactly : Type 0
 FrameExactly =
     (s : List ℕ) → Bytes s
-    → ((framed_in s ≡ NoFrame) ↔ ((f : Frame) (body fill : List ℕ) → IsPdu s f body fill → ⊥))
-    × ((f : Frame) (body fill : List ℕ) → IsPdu s f body fill → (framed_in s ≡ Whole f) × (body_in s ≡ body))
+    → ((framed_in s ≡ None) ↔ ((f : Frame) (body fill : List ℕ) → IsPdu s f body fill → ⊥))
+    × ((f : Frame) (body fill : List ℕ) → IsPdu s f body fill → (framed_in s ≡ Some f) × (body_in s ≡ body))
 
--- LAW own_read: of bytes that hold a whole PDU, as many as their header says, only these are read: two that agree on them are read alike.
+-- LAW owns_read: of bytes that hold a whole PDU, as many as their header says, only these are read: two that agree on them are read alike.
 pub record OwnRead (a b : List ℕ) : Type 0 where
   pub framed : framed_in a ≡ framed_in b
   pub frame : frame_in a ≡ frame_in b
@@ -237,7 +234,7 @@ pub record IsSaid (s : List ℕ) (p : Pdu) (fill : List ℕ) : Type 0 where
 abbrev pub DecodeExactly : Type 0
 DecodeExactly =
     (s : List ℕ) → Bytes s
-    → ((p : Pdu) → (decode_first s ≡ some p) ↔ ((fill : List ℕ) × IsSaid s p fill))
-    × ((decode_first s ≡ none) ↔ ((p : Pdu) (fill : List ℕ) → IsSaid s p fill → ⊥))
-    × ((p : Pdu) → (decode s ≡ some p) ↔ IsSaid s p [])
-    × ((decode s ≡ none) ↔ ((p : Pdu) → IsSaid s p [] → ⊥))
+    → ((p : Pdu) → (decode_first s ≡ Some p) ↔ ((fill : List ℕ) × IsSaid s p fill))
+    × ((decode_first s ≡ None) ↔ ((p : Pdu) (fill : List ℕ) → IsSaid s p fill → ⊥))
+    × ((p : Pdu) → (decode s ≡ Some p) ↔ IsSaid s p [])
+    × ((decode s ≡ None) ↔ ((p : Pdu) → IsSaid s p [] → ⊥))

@@ -1,19 +1,18 @@
 -- "PDU bytes (727)": what the bytes of a PDU say, read by places and widths. The writers' definitions are not used here.
 -- Assumes nothing.
-use Rattle.std.specs.Prelude.{Bool, true, false, List, [], ◌∷◌, ℕ, zero, suc, ◌+◌, ◌-◌, ◌*◌, ◌/◌, ◌%◌, length, take, drop, eqb, ltb}
+use Rattle.std.specs.Prelude.{Bool, true, false, List, [], ◌∷◌, ℕ, zero, suc, ◌+◌, ◌-◌, ◌*◌, ◌/◌, ◌%◌, length, take, drop, eqb, ltb, Err, None, Ok, Option, Result, Some}
 use Rattle.basis.specs.Pick.{pick, ◌and◌, ◌or◌, not}
 use Rattle.basis.specs.Bytes.{part, byte, num_at}
 use Rattle.rules_pdu.specs.Numbers.{good_width, F, C}
 use Rattle.rules_leaves.specs.Checksum.{crc16}
 use Rattle.types.specs.declared.Head.{Head}
 use Rattle.types.specs.declared.Frame.{Frame}
-use Rattle.types.specs.declared.Framed.{Framed}
-use Rattle.types.specs.declared.Framed.TheVariants.{Malformed as NoFrame, Whole}
 use Rattle.types.specs.declared.SegmentRequest.{SegmentRequest}
 use Rattle.types.specs.declared.FinishedParams.{FinishedParams}
 use Rattle.types.specs.declared.Meaning.TheVariants.{Finished, AckOfEof, Nak, KeepAlive}
-use Rattle.types.specs.declared.Body.{Body}
-use Rattle.types.specs.declared.Body.TheVariants.{Malformed, CantProcess, Means}
+use Rattle.types.specs.declared.Meaning.{Meaning}
+use Rattle.types.specs.declared.ReadError.{ReadError}
+use Rattle.types.specs.declared.ReadError.TheVariants.{Malformed, CantProcess}
 
 -- ---- the header. "A delivery's own header gives its H, F and C"
 
@@ -93,8 +92,8 @@ body_end s = end_in s - C (crc_in s)
 unfoldable pub frame_in : List ℕ → Frame
 frame_in s = record { head = head_in s; filedata = file_data_in s; tosender = to_sender_in s; start = h_in s; end = body_end s; length = end_in s }
 
-unfoldable pub framed_in : List ℕ → Framed
-framed_in s = pick (well_framed s) (Whole (frame_in s)) NoFrame
+unfoldable pub framed_in : List ℕ → Option Frame
+framed_in s = pick (well_framed s) (Some (frame_in s)) None
 
 unfoldable pub body_in : List ℕ → List ℕ
 body_in s = part s (h_in s) (body_end s - h_in s)
@@ -140,60 +139,60 @@ are_tlvs s = closed (tlv_after at_type s)
 unfoldable pub finished_params : ℕ → FinishedParams
 finished_params b = record { condition = b / 16; delivery = b / 4 % 2; status = b % 4 }
 
-unfoldable pub finished_in : List ℕ → Body
+unfoldable pub finished_in : List ℕ → Result Meaning ReadError
 finished_in b =
-    pick (ltb (length b) 2) Malformed
-    (pick (reserved (byte b 1 / 16)) Malformed
-    (pick (are_tlvs (drop 2 b)) (Means (Finished (finished_params (byte b 1)))) Malformed))
+    pick (ltb (length b) 2) (Err Malformed)
+    (pick (reserved (byte b 1 / 16)) (Err Malformed)
+    (pick (are_tlvs (drop 2 b)) (Ok (Finished (finished_params (byte b 1)))) (Err Malformed)))
 
 -- 6 ACK: "acked code 4, subtype 4 (0 for EOF, 1 for Finished), condition 4, spare 2, status 2; other acked codes or subtypes are Malformed";
 -- an ACK of Finished is read whole before it is refused
-unfoldable pub ack_in : List ℕ → Body
+unfoldable pub ack_in : List ℕ → Result Meaning ReadError
 ack_in b =
     pick (eqb (length b) 3)
-    (pick (reserved (byte b 2 / 16)) Malformed
-    (pick (eqb (byte b 1) 0x40) (Means AckOfEof)
-    (pick (eqb (byte b 1) 0x51) CantProcess
-    Malformed)))
-    Malformed
+    (pick (reserved (byte b 2 / 16)) (Err Malformed)
+    (pick (eqb (byte b 1) 0x40) (Ok AckOfEof)
+    (pick (eqb (byte b 1) 0x51) (Err CantProcess)
+    (Err Malformed))))
+    (Err Malformed)
 
 -- 8 NAK: "scope start, scope end, then pairs start, end, F bytes each; scope not judged"
 unfoldable pub request_count : Bool → ℕ → ℕ
 request_count large n = (n - (1 + 2 * F large)) / (2 * F large)
 
-unfoldable pub nak_in : Bool → List ℕ → Body
+unfoldable pub nak_in : Bool → List ℕ → Result Meaning ReadError
 nak_in large b =
-    pick (ltb (length b) (1 + 2 * F large)) Malformed
-    (pick (eqb ((length b - (1 + 2 * F large)) % (2 * F large)) 0) (Means (Nak (request_count large (length b)))) Malformed)
+    pick (ltb (length b) (1 + 2 * F large)) (Err Malformed)
+    (pick (eqb ((length b - (1 + 2 * F large)) % (2 * F large)) 0) (Ok (Nak (request_count large (length b)))) (Err Malformed))
 
 -- 12 Keep Alive: "progress F"
-unfoldable pub keep_alive_in : Bool → List ℕ → Body
-keep_alive_in large b = pick (eqb (length b) (1 + F large)) (Means (KeepAlive (num_at b 1 (F large)))) Malformed
+unfoldable pub keep_alive_in : Bool → List ℕ → Result Meaning ReadError
+keep_alive_in large b = pick (eqb (length b) (1 + F large)) (Ok (KeepAlive (num_at b 1 (F large)))) (Err Malformed)
 
 -- by directive code: a body reader, the routing refusal, or "Any other directive code is Malformed"
-unfoldable pub directive_in : Bool → ℕ → List ℕ → Body
+unfoldable pub directive_in : Bool → ℕ → List ℕ → Result Meaning ReadError
 directive_in large code b =
-    pick (eqb code 4) CantProcess
+    pick (eqb code 4) (Err CantProcess)
     (pick (eqb code 5) (finished_in b)
     (pick (eqb code 6) (ack_in b)
-    (pick (eqb code 7) CantProcess
+    (pick (eqb code 7) (Err CantProcess)
     (pick (eqb code 8) (nak_in large b)
-    (pick (eqb code 9) CantProcess
+    (pick (eqb code 9) (Err CantProcess)
     (pick (eqb code 12) (keep_alive_in large b)
-    Malformed))))))
+    (Err Malformed)))))))
 
 -- "direction towards the receiver" is 21, for what is no 20
-abbrev pub directed : Bool → Body → Body
+abbrev pub directed : Bool → Result Meaning ReadError → Result Meaning ReadError
 directed true m = m
-directed false Malformed = Malformed
-directed false CantProcess = CantProcess
-directed false (Means m) = CantProcess
+directed false (Err Malformed) = Err Malformed
+directed false (Err CantProcess) = Err CantProcess
+directed false (Ok m) = Err CantProcess
 
 -- a body in its frame: file data is unread; a directive with no code byte is Malformed
-unfoldable pub body_of : Frame → List ℕ → Body
+unfoldable pub body_of : Frame → List ℕ → Result Meaning ReadError
 body_of f b =
-    pick f.filedata CantProcess
-    (pick (eqb (length b) 0) Malformed
+    pick f.filedata (Err CantProcess)
+    (pick (eqb (length b) 0) (Err Malformed)
     (directed f.tosender (directive_in f.head.large (byte b 0) b)))
 
 -- ---- the requests of a NAK, read from the delivered bytes: k of them from place i on

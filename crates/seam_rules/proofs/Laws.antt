@@ -1,5 +1,6 @@
 -- Each call on the memory is the call on the state in it; a refusal leaves the memory as it was; what a step and a burst tell; the configuration stays.
 -- Assumes nothing.
+use Rattle.std.specs.Prelude.{Err, Ok, Result, ⊤}
 use mathlib.Core.Path.{◌≡◌, refl, sym, ap, ◌∙◌}
 use mathlib.Core.Bool.{Bool, true, false}
 use mathlib.Core.List.{List, [], ◌∷◌, ◌++◌, map, tail, cons≢nil}
@@ -11,6 +12,8 @@ use lib.Seq.{take_at, drop_at}
 use borrow.Author.Tests.{eqb-true}
 use Rattle.basis.specs.Pick.{flag}
 use Rattle.basis.proofs.Pick.{cases}
+use Rattle.seam_rules.specs.Done.{Done}
+use Rattle.rules.specs.Answers.{Bursted}
 use Rattle.rules.specs.Refusals.{answer_no}
 use Rattle.rules.specs.Put.{put_outcome}
 use Rattle.rules.specs.Deliver.{deliver_outcome}
@@ -19,10 +22,8 @@ use Rattle.rules.specs.Cancel.{cancel_outcome, reset_outcome, new_outcome}
 use Rattle.rules.specs.Burst.{burst_outcome}
 use Rattle.rules.specs.Runs.{made_in}
 use Rattle.types.specs.declared.State.{State}
-use Rattle.types.specs.declared.Answer.{Answer}
-use Rattle.types.specs.declared.Answer.TheVariants.{Accepted, Refused}
+use Rattle.types.specs.declared.Refusal.{Refusal}
 use Rattle.types.specs.declared.Made.{Made}
-use Rattle.types.specs.declared.Bursted.{Bursted}
 use Rattle.rules.proofs.Exactly.{numbered, refusal_changes_nothing}
 use Rattle.rules.proofs.Singly.{burst-one-by-one}
 use Rattle.rules.proofs.Bursts.{burst_is_steps}
@@ -32,38 +33,37 @@ use Rattle.seam_rules.specs.Follows.{MemoryFollows, MemoryUntouched, ReportTold,
 use Rattle.seam_rules.specs.declared.memory.Report.{Report}
 use Rattle.seam_rules.specs.declared.memory.BurstReport.{BurstReport}
 use Rattle.seam_rules.specs.declared.memory.Handler.{Handler}
-use Rattle.seam_rules.specs.declared.Done.{Done}
 use Rattle.seam_rules.proofs.Round.{state_kept}
 
 -- ---- by an answer
 
-code_is : (h : Handler) (s : State) (r : Report) (a : Answer) → (by_answer h s r a).code ≡ answer_no a
-code_is h s r Accepted = refl
-code_is h s r (Refused k) = refl
+code_is : (h : Handler) (s : State) (r : Report) (a : Result ⊤ Refusal) → (by_answer h s r a).code ≡ answer_no a
+code_is h s r (Ok tt) = refl
+code_is h s r (Err k) = refl
 
-follows : (h : Handler) (s : State) (r : Report) (a : Answer) → ((¬ (answer_no a ≡ 0)) → s ≡ state_of h) → state_of (by_answer h s r a).held ≡ s
-follows h s r Accepted same = state_kept h.config s r
-follows h s r (Refused k) same = sym (same (numbered k))
+follows : (h : Handler) (s : State) (r : Report) (a : Result ⊤ Refusal) → ((¬ (answer_no a ≡ 0)) → s ≡ state_of h) → state_of (by_answer h s r a).held ≡ s
+follows h s r (Ok tt) same = state_kept h.config s r
+follows h s r (Err k) same = sym (same (numbered k))
 
-untouched : (h : Handler) (s : State) (r : Report) (a : Answer) → (¬ ((by_answer h s r a).code ≡ 0)) → (by_answer h s r a).held ≡ h
-untouched h s r Accepted n = absurd (n refl)
-untouched h s r (Refused k) n = refl
+untouched : (h : Handler) (s : State) (r : Report) (a : Result ⊤ Refusal) → (¬ ((by_answer h s r a).code ≡ 0)) → (by_answer h s r a).held ≡ h
+untouched h s r (Ok tt) n = absurd (n refl)
+untouched h s r (Err k) n = refl
 
-told : (h : Handler) (s : State) (r : Report) (a : Answer) → (by_answer h s r a).code ≡ 0 → (by_answer h s r a).held.report ≡ r
+told : (h : Handler) (s : State) (r : Report) (a : Result ⊤ Refusal) → (by_answer h s r a).code ≡ 0 → (by_answer h s r a).held.report ≡ r
 unfolding held_of
-told h s r Accepted e = refl
-told h s r (Refused k) e = absurd (numbered k e)
+told h s r (Ok tt) e = refl
+told h s r (Err k) e = absurd (numbered k e)
 
-stays : (h : Handler) (s : State) (r : Report) (a : Answer) → (by_answer h s r a).held.config ≡ h.config
+stays : (h : Handler) (s : State) (r : Report) (a : Result ⊤ Refusal) → (by_answer h s r a).held.config ≡ h.config
 unfolding held_of
-stays h s r Accepted = refl
-stays h s r (Refused k) = refl
+stays h s r (Ok tt) = refl
+stays h s r (Err k) = refl
 
 -- ---- by a burst's answer
 
-burst_code_is : (h : Handler) (r : BurstReport) (b : Bursted) (a : Answer) → (burst_by h r b a).code ≡ answer_no a
-burst_code_is h r b Accepted = refl
-burst_code_is h r b (Refused k) = refl
+burst_code_is : (h : Handler) (r : BurstReport) (b : Bursted) (a : Result ⊤ Refusal) → (burst_by h r b a).code ≡ answer_no a
+burst_code_is h r b (Ok tt) = refl
+burst_code_is h r b (Err k) = refl
 
 -- of no steps nothing is stored
 burst-nothing : (h : Handler) (b : Bursted) → b.count ≡ 0 → burst_held h b ≡ h
@@ -74,23 +74,23 @@ burst-stored : (h : Handler) (b : Bursted) → (b.count ≡ 0 → b.state ≡ st
 burst-stored h b none =
     cases (λ (d : Handler). state_of d ≡ b.state) (eqb b.count 0) _ _ (λ e. sym (none (eqb-true b.count 0 e))) (λ _. state_kept h.config b.state _)
 
-burst-follows : (h : Handler) (r : BurstReport) (b : Bursted) (a : Answer) → (b.count ≡ 0 → b.state ≡ state_of h) → ((¬ (answer_no a ≡ 0)) → b.state ≡ state_of h)
+burst-follows : (h : Handler) (r : BurstReport) (b : Bursted) (a : Result ⊤ Refusal) → (b.count ≡ 0 → b.state ≡ state_of h) → ((¬ (answer_no a ≡ 0)) → b.state ≡ state_of h)
     → state_of (burst_by h r b a).held ≡ b.state
-burst-follows h r b Accepted none same = burst-stored h b none
-burst-follows h r b (Refused k) none same = sym (same (numbered k))
+burst-follows h r b (Ok tt) none same = burst-stored h b none
+burst-follows h r b (Err k) none same = sym (same (numbered k))
 
-burst-untouched : (h : Handler) (r : BurstReport) (b : Bursted) (a : Answer) → (¬ ((burst_by h r b a).code ≡ 0)) → ((burst_by h r b a).held ≡ h) × ((burst_by h r b a).report ≡ r)
-burst-untouched h r b Accepted n = absurd (n refl)
-burst-untouched h r b (Refused k) n = (refl, refl)
+burst-untouched : (h : Handler) (r : BurstReport) (b : Bursted) (a : Result ⊤ Refusal) → (¬ ((burst_by h r b a).code ≡ 0)) → ((burst_by h r b a).held ≡ h) × ((burst_by h r b a).report ≡ r)
+burst-untouched h r b (Ok tt) n = absurd (n refl)
+burst-untouched h r b (Err k) n = (refl, refl)
 
-burst-stays : (h : Handler) (r : BurstReport) (b : Bursted) (a : Answer) → (burst_by h r b a).held.config ≡ h.config
+burst-stays : (h : Handler) (r : BurstReport) (b : Bursted) (a : Result ⊤ Refusal) → (burst_by h r b a).held.config ≡ h.config
 unfolding held_of
-burst-stays h r b Accepted = cases (λ (d : Handler). d.config ≡ h.config) (eqb b.count 0) _ _ (λ _. refl) (λ _. refl)
-burst-stays h r b (Refused k) = refl
+burst-stays h r b (Ok tt) = cases (λ (d : Handler). d.config ≡ h.config) (eqb b.count 0) _ _ (λ _. refl) (λ _. refl)
+burst-stays h r b (Err k) = refl
 
-burst-accepted : (h : Handler) (r : BurstReport) (b : Bursted) (a : Answer) → (burst_by h r b a).code ≡ 0 → a ≡ Accepted
-burst-accepted h r b Accepted e = refl
-burst-accepted h r b (Refused k) e = absurd (numbered k e)
+burst-accepted : (h : Handler) (r : BurstReport) (b : Bursted) (a : Result ⊤ Refusal) → (burst_by h r b a).code ≡ 0 → a ≡ Ok tt
+burst-accepted h r b (Ok tt) e = refl
+burst-accepted h r b (Err k) e = absurd (numbered k e)
 
 -- the state behind no steps
 burst-none : (s : State) (file : List ℕ) (expired : Bool) (count : ℕ) (out : List ℕ)
@@ -229,7 +229,7 @@ bursts-told h r file expired count out z =
     b : Bursted
     b = burst_outcome (state_of h) file (flag_of expired) count (length out)
 
-    a : b.answer ≡ Accepted
+    a : b.answer ≡ Ok tt
     a = burst-accepted h r b b.answer z
 
     long : length (map reported (made_in b)) ≡ b.count

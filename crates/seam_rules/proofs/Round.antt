@@ -1,5 +1,6 @@
 -- What is stored is taken out again.
 -- Assumes nothing.
+use Rattle.std.specs.Prelude.{None, Option, Some}
 use mathlib.Core.Path.{◌≡◌, refl}
 use mathlib.Core.Bool.{Bool, true, false}
 use lib.Dec.{eqb}
@@ -9,12 +10,10 @@ use Rattle.types.specs.declared.Fixed.{Fixed}
 use Rattle.types.specs.declared.Marks.{Marks}
 use Rattle.types.specs.declared.TransactionStep.{TransactionStep}
 use Rattle.types.specs.declared.TransactionStep.TheVariants.{Idle, SendingMetadata, SendingFileData, SendingEof, WaitingForEofAck, WaitingForFinished, Closing}
-use Rattle.types.specs.declared.FaultEvent.{FaultEvent}
-use Rattle.types.specs.declared.FaultEvent.TheVariants.{NoFault, Fault}
-use Rattle.types.specs.declared.FinishedEvent.{FinishedEvent}
-use Rattle.types.specs.declared.FinishedEvent.TheVariants.{NotFinished, Finished}
-use Rattle.types.specs.declared.TimerEvent.{TimerEvent}
-use Rattle.types.specs.declared.TimerEvent.TheVariants.{NoTimer, AckTimer, CheckTimer}
+use Rattle.types.specs.declared.Fault.{Fault}
+use Rattle.types.specs.declared.FinishedParams.{FinishedParams}
+use Rattle.types.specs.declared.Timer.{Timer}
+use Rattle.types.specs.declared.Timer.TheVariants.{Ack, Check}
 use Rattle.seam_rules.specs.Memory.{flag_of, step_of, head_taken, fixed_taken, marks_taken, state_of, fixed_stored, marks_stored, held_of, fault_flag, fault_action, fault_condition, fault_progress, finished_flag, finished_values, timer_no, reported}
 use Rattle.seam_rules.specs.Kept.{StateKept, EventsKept}
 
@@ -55,20 +54,20 @@ state_kept c s r = rw (step_kept s.step, fixed_kept s.fixed, marks-kept s.marks)
 
 -- ---- the events
 
-fault-kept : (f : FaultEvent) → pick (flag_of (fault_flag f)) (Fault (fault_action f) (fault_condition f) (fault_progress f)) NoFault ≡ f
+fault-kept : (f : Option Fault) → pick (flag_of (fault_flag f)) (Some (record { action = fault_action f; condition = fault_condition f; progress = fault_progress f })) None ≡ f
 unfolding flag_of
-fault-kept NoFault = refl
-fault-kept (Fault action condition progress) = refl
+fault-kept None = refl
+fault-kept (Some f) = refl
 
-finished-kept : (f : FinishedEvent) → pick (flag_of (finished_flag f)) (Finished (finished_values f)) NotFinished ≡ f
+finished-kept : (f : Option FinishedParams) → pick (flag_of (finished_flag f)) (Some (finished_values f)) None ≡ f
 unfolding flag_of
-finished-kept NotFinished = refl
-finished-kept (Finished values) = refl
+finished-kept None = refl
+finished-kept (Some values) = refl
 
-timer_kept : (t : TimerEvent) → pick (eqb (timer_no t) 1) AckTimer (pick (eqb (timer_no t) 2) CheckTimer NoTimer) ≡ t
-timer_kept NoTimer = refl
-timer_kept AckTimer = refl
-timer_kept CheckTimer = refl
+timer_kept : (t : Option Timer) → pick (eqb (timer_no t) 1) (Some Ack) (pick (eqb (timer_no t) 2) (Some Check) None) ≡ t
+timer_kept None = refl
+timer_kept (Some Ack) = refl
+timer_kept (Some Check) = refl
 
 pub events_kept : EventsKept
 unfolding reported

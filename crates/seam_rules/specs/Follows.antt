@@ -77,7 +77,7 @@ pub record ReportTold : Type 0 where
 abbrev pub told_in : BurstReport → List Report
 told_in r = take r.count r.steps
 
--- PROMISE burst_told: an accepted burst tells each step made with its report, in order, keeps the places behind, and leaves in the memory the report of the last.
+-- PROMISE bursts_told: an accepted burst tells each step made with its report, in order, keeps the places behind, and leaves in the memory the report of the last.
 pub record BurstTold (h : Handler) (r : BurstReport) (file : List ℕ) (expired count : ℕ) (out : List ℕ) : Type 0 where
   pub told :
       let b = burst_outcome (state_of h) file (flag_of expired) count (length out) in

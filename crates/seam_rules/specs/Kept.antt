@@ -1,15 +1,13 @@
 -- Nothing is lost between a state and the memory, nor between a step's events and its report. Proof: proofs/Round.antt.
 -- Assumes nothing.
-use Rattle.std.specs.Prelude.{◌≡◌, eqb}
+use Rattle.std.specs.Prelude.{◌≡◌, eqb, None, Option, Some}
 use Rattle.basis.specs.Pick.{pick}
 use Rattle.types.specs.declared.State.{State}
 use Rattle.types.specs.declared.Events.{Events}
-use Rattle.types.specs.declared.FaultEvent.{FaultEvent}
-use Rattle.types.specs.declared.FaultEvent.TheVariants.{NoFault, Fault}
-use Rattle.types.specs.declared.FinishedEvent.{FinishedEvent}
-use Rattle.types.specs.declared.FinishedEvent.TheVariants.{NotFinished, Finished}
-use Rattle.types.specs.declared.TimerEvent.{TimerEvent}
-use Rattle.types.specs.declared.TimerEvent.TheVariants.{NoTimer, AckTimer, CheckTimer}
+use Rattle.types.specs.declared.Fault.{Fault}
+use Rattle.types.specs.declared.FinishedParams.{FinishedParams}
+use Rattle.types.specs.declared.Timer.{Timer}
+use Rattle.types.specs.declared.Timer.TheVariants.{Ack, Check}
 use Rattle.types.specs.declared.Made.{Made}
 use Rattle.seam_rules.specs.Memory.{flag_of, state_of, held_of, reported}
 use Rattle.seam_rules.specs.declared.memory.Config.{Config}
@@ -20,14 +18,14 @@ abbrev pub StateKept : Type 0
 StateKept = (c : Config) (s : State) (r : Report) → state_of (held_of c s r) ≡ s
 
 -- the events that a host reads in a report
-abbrev pub fault_in : Report → FaultEvent
-fault_in r = pick (flag_of r.fault) (Fault r.action r.condition r.progress) NoFault
+abbrev pub fault_in : Report → Option Fault
+fault_in r = pick (flag_of r.fault) (Some (record { action = r.action; condition = r.condition; progress = r.progress })) None
 
-abbrev pub finished_in : Report → FinishedEvent
-finished_in r = pick (flag_of r.finished) (Finished r.values) NotFinished
+abbrev pub finished_in : Report → Option FinishedParams
+finished_in r = pick (flag_of r.finished) (Some r.values) None
 
-abbrev pub timer_in : Report → TimerEvent
-timer_in r = pick (eqb r.timer 1) AckTimer (pick (eqb r.timer 2) CheckTimer NoTimer)
+abbrev pub timer_in : Report → Option Timer
+timer_in r = pick (eqb r.timer 1) (Some Ack) (pick (eqb r.timer 2) (Some Check) None)
 
 abbrev pub events_in : Report → Events
 events_in r =

@@ -1,13 +1,12 @@
 -- What the handler's memory means: the state and the configuration taken out of it, and a state and a step's report stored in it. Every bit pattern has a meaning.
 -- Assumes nothing.
-use Rattle.std.specs.Prelude.{Bool, true, false, not, map, ℕ, eqb}
+use Rattle.std.specs.Prelude.{Bool, true, false, not, map, ℕ, eqb, None, Option, Some}
 use Rattle.basis.specs.Pick.{pick, flag}
+use Rattle.rules.specs.Answers.{Stepped}
 use Rattle.rules.specs.States.{not_finished, step_no}
 use Rattle.rules.specs.Burst.{made_of}
 use Rattle.types.specs.declared.RemoteEntityConfig.{RemoteEntityConfig}
 use Rattle.types.specs.declared.LocalEntityConfig.{LocalEntityConfig}
-use Rattle.types.specs.declared.Choice.{Choice}
-use Rattle.types.specs.declared.Choice.TheVariants.{Given, Default}
 use Rattle.types.specs.declared.PutRequest.{PutRequest}
 use Rattle.types.specs.declared.Head.{Head}
 use Rattle.types.specs.declared.Fixed.{Fixed}
@@ -15,14 +14,10 @@ use Rattle.types.specs.declared.Marks.{Marks}
 use Rattle.types.specs.declared.State.{State}
 use Rattle.types.specs.declared.TransactionStep.{TransactionStep}
 use Rattle.types.specs.declared.TransactionStep.TheVariants.{Idle, SendingMetadata, SendingFileData, SendingEof, WaitingForEofAck, WaitingForFinished, Closing}
-use Rattle.types.specs.declared.FaultEvent.{FaultEvent}
-use Rattle.types.specs.declared.FaultEvent.TheVariants.{NoFault, Fault}
-use Rattle.types.specs.declared.FinishedEvent.{FinishedEvent}
-use Rattle.types.specs.declared.FinishedEvent.TheVariants.{NotFinished, Finished}
+use Rattle.types.specs.declared.Fault.{Fault}
 use Rattle.types.specs.declared.FinishedParams.{FinishedParams}
-use Rattle.types.specs.declared.TimerEvent.{TimerEvent}
-use Rattle.types.specs.declared.TimerEvent.TheVariants.{NoTimer, AckTimer, CheckTimer}
-use Rattle.types.specs.declared.Stepped.{Stepped}
+use Rattle.types.specs.declared.Timer.{Timer}
+use Rattle.types.specs.declared.Timer.TheVariants.{Ack, Check}
 use Rattle.types.specs.declared.Made.{Made}
 use Rattle.seam_rules.specs.declared.memory.Remote.{Remote}
 use Rattle.seam_rules.specs.declared.memory.Config.{Config}
@@ -167,34 +162,34 @@ held_of c s r =
 
 -- ---- what an accepted step said
 
-abbrev pub fault_flag : FaultEvent → ℕ
-fault_flag NoFault = 0
-fault_flag (Fault action condition progress) = 1
+abbrev pub fault_flag : Option Fault → ℕ
+fault_flag None = 0
+fault_flag (Some f) = 1
 
-abbrev pub fault_action : FaultEvent → ℕ
-fault_action NoFault = 0
-fault_action (Fault action condition progress) = action
+abbrev pub fault_action : Option Fault → ℕ
+fault_action None = 0
+fault_action (Some f) = f.action
 
-abbrev pub fault_condition : FaultEvent → ℕ
-fault_condition NoFault = 0
-fault_condition (Fault action condition progress) = condition
+abbrev pub fault_condition : Option Fault → ℕ
+fault_condition None = 0
+fault_condition (Some f) = f.condition
 
-abbrev pub fault_progress : FaultEvent → ℕ
-fault_progress NoFault = 0
-fault_progress (Fault action condition progress) = progress
+abbrev pub fault_progress : Option Fault → ℕ
+fault_progress None = 0
+fault_progress (Some f) = f.progress
 
-abbrev pub finished_flag : FinishedEvent → ℕ
-finished_flag NotFinished = 0
-finished_flag (Finished values) = 1
+abbrev pub finished_flag : Option FinishedParams → ℕ
+finished_flag None = 0
+finished_flag (Some values) = 1
 
-abbrev pub finished_values : FinishedEvent → FinishedParams
-finished_values NotFinished = not_finished
-finished_values (Finished values) = values
+abbrev pub finished_values : Option FinishedParams → FinishedParams
+finished_values None = not_finished
+finished_values (Some values) = values
 
-abbrev pub timer_no : TimerEvent → ℕ
-timer_no NoTimer = 0
-timer_no AckTimer = 1
-timer_no CheckTimer = 2
+abbrev pub timer_no : Option Timer → ℕ
+timer_no None = 0
+timer_no (Some Ack) = 1
+timer_no (Some Check) = 2
 
 unfoldable pub reported : Made → Report
 reported m =
@@ -237,8 +232,8 @@ no_report =
 -- ---- a put's request, of its numbers
 
 -- 0: no, 1: yes, any other number: as the table's entry says
-unfoldable pub choice_of : ℕ → Choice
-choice_of x = pick (eqb x 0) (Given false) (pick (eqb x 1) (Given true) Default)
+unfoldable pub choice_of : ℕ → Option Bool
+choice_of x = pick (eqb x 0) (Some false) (pick (eqb x 1) (Some true) None)
 
 abbrev pub request_of : ℕ → ℕ → ℕ → ℕ → PutRequest
 request_of width entity unacknowledged closure =

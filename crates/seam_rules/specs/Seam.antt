@@ -1,8 +1,10 @@
 -- What the C functions do with the memory that the host lends: the state and the configuration are taken out of it, the call's own definition
 -- (crate `rules`) says what comes of them, and that is stored.
 -- Assumes nothing.
-use Rattle.std.specs.Prelude.{List, [], ◌∷◌, ◌++◌, map, ℕ, eqb, length, drop}
+use Rattle.std.specs.Prelude.{List, [], ◌∷◌, ◌++◌, map, ℕ, eqb, length, drop, Err, Ok, Result, ⊤}
 use Rattle.basis.specs.Pick.{pick}
+use Rattle.seam_rules.specs.Done.{Done, DeliverDone, BurstDone}
+use Rattle.rules.specs.Answers.{Cancelled, Bursted}
 use Rattle.rules.specs.Refusals.{answer_no}
 use Rattle.rules.specs.Put.{put_outcome}
 use Rattle.rules.specs.Deliver.{deliver_outcome}
@@ -12,17 +14,11 @@ use Rattle.rules.specs.Burst.{burst_outcome, burst_bytes}
 use Rattle.rules.specs.Runs.{made_in}
 use Rattle.seam_rules.specs.Memory.{flag_of, config_of, state_of, held_of, reported, report_of, no_report, request_of}
 use Rattle.types.specs.declared.State.{State}
-use Rattle.types.specs.declared.Answer.{Answer}
-use Rattle.types.specs.declared.Answer.TheVariants.{Accepted, Refused}
-use Rattle.types.specs.declared.Cancelled.{Cancelled}
+use Rattle.types.specs.declared.Refusal.{Refusal}
 use Rattle.types.specs.declared.Made.{Made}
-use Rattle.types.specs.declared.Bursted.{Bursted}
 use Rattle.seam_rules.specs.declared.memory.Report.{Report}
 use Rattle.seam_rules.specs.declared.memory.Handler.{Handler}
 use Rattle.seam_rules.specs.declared.memory.BurstReport.{BurstReport}
-use Rattle.seam_rules.specs.declared.Done.{Done}
-use Rattle.seam_rules.specs.declared.DeliverDone.{DeliverDone}
-use Rattle.seam_rules.specs.declared.BurstDone.{BurstDone}
 
 -- ---- the code that is returned, and the memory after the call; the configuration stays
 
@@ -31,9 +27,9 @@ abbrev pub stored : ℕ → Handler → State → Report → Done
 stored code h s r = record { code = code; held = held_of h.config s r }
 
 -- "A refusal returns its number and changes nothing": the memory stays as it was, the report of an earlier step too
-abbrev pub by_answer : Handler → State → Report → Answer → Done
-by_answer h s r Accepted = stored 0 h s r
-by_answer h s r (Refused k) = record { code = answer_no (Refused k); held = h }
+abbrev pub by_answer : Handler → State → Report → Result ⊤ Refusal → Done
+by_answer h s r (Ok tt) = stored 0 h s r
+by_answer h s r (Err k) = record { code = answer_no (Err k); held = h }
 
 unfoldable pub new_done : Handler → ℕ → ℕ → Done
 new_done h width number = stored 0 h (new_outcome (width, number)) no_report
@@ -75,9 +71,9 @@ abbrev pub burst_held : Handler → Bursted → Handler
 burst_held h b = pick (eqb b.count 0) h (held_of h.config b.state (last_report h.report (made_in b)))
 
 -- a refusal leaves the memory and the burst's report as they were
-abbrev pub burst_by : Handler → BurstReport → Bursted → Answer → BurstDone
-burst_by h r b Accepted = record { code = 0; held = burst_held h b; report = burst_report r b }
-burst_by h r b (Refused k) = record { code = answer_no (Refused k); held = h; report = r }
+abbrev pub burst_by : Handler → BurstReport → Bursted → Result ⊤ Refusal → BurstDone
+burst_by h r b (Ok tt) = record { code = 0; held = burst_held h b; report = burst_report r b }
+burst_by h r b (Err k) = record { code = answer_no (Err k); held = h; report = r }
 
 unfoldable pub burst_done : Handler → BurstReport → List ℕ → ℕ → ℕ → List ℕ → BurstDone
 burst_done h r file expired count out =

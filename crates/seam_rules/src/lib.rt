@@ -4,28 +4,3 @@
 #![tactic(auto)]
 
 pub mod memory;
-
-use crate::memory::{BurstReport, DeliverReport, Handler};
-
-// What a call returns and what is stored.
-#[derive(Clone, Copy)]
-pub struct Done {
-    pub code: u32,
-    pub held: Handler,
-}
-
-// Of a delivery, which has a report of its own, on a refusal too.
-#[derive(Clone, Copy)]
-pub struct DeliverDone {
-    pub code: u32,
-    pub held: Handler,
-    pub report: DeliverReport,
-}
-
-// Of a burst, which has a report of its own.
-#[derive(Clone, Copy)]
-pub struct BurstDone {
-    pub code: u32,
-    pub held: Handler,
-    pub report: BurstReport,
-}

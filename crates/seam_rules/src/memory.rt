@@ -3,6 +3,8 @@
 
 use types::{EntityId, FileParams, FinishedParams, Names, Queue, TransactionSeqNum};
 
+// Stays: numbers for kinds, flags as bytes, places beside counts, all through this module: it is the struct of C.
+
 // An entry of the table of remote entities. Here and below a flag is a byte: 0 is clear, any other is set.
 #[repr(C)]
 #[derive(Clone, Copy)]

@@ -5,6 +5,7 @@
 // ---- Numbers
 
 // A width in bytes (1, 2, 4 or 8) and a value that fits it. An entity id can never stand where a sequence number is due.
+// Stays: two types of one shape, which C names both.
 #[repr(C)]
 #[derive(Clone, Copy)]
 pub struct EntityId(pub u8, pub u64);
@@ -26,13 +27,6 @@ pub struct Head {
     pub destination: EntityId,
 }
 
-// What a writer did: the PDU's length, or that it doesn't fit and nothing was written.
-#[derive(Clone, Copy)]
-pub enum Written {
-    Short,
-    Wrote(usize),
-}
-
 // A delivery's header, where its body starts and ends among the delivered bytes, and how many of these are the PDU's; what stands behind is fill.
 #[derive(Clone, Copy)]
 pub struct Frame {
@@ -44,12 +38,6 @@ pub struct Frame {
     pub length: usize,
 }
 
-#[derive(Clone, Copy)]
-pub enum Framed {
-    Malformed,
-    Whole(Frame),
-}
-
 // One request of a NAK: the bytes from start up to end.
 #[repr(C)]
 #[derive(Clone, Copy)]
@@ -59,6 +47,7 @@ pub struct SegmentRequest {
 }
 
 // A Finished PDU's values.
+// Stays: numbers, as C has them; a handler's memory may hold any byte here, and each is a value.
 #[repr(C)]
 #[derive(Clone, Copy)]
 pub struct FinishedParams {
@@ -76,24 +65,17 @@ pub enum Meaning {
     KeepAlive(u64),
 }
 
-// What a body is: none by the layouts, one that the sender can't process, or one with a meaning.
+// Why a body has no meaning: it is none by the layouts, or one that the sender can't process.
 #[derive(Clone, Copy)]
-pub enum Body {
+pub enum ReadError {
     Malformed,
     CantProcess,
-    Means(Meaning),
-}
-
-// A checksum, or that its type is none of document 01's.
-#[derive(Clone, Copy)]
-pub enum Checksum {
-    Is(u32),
-    UnknownType,
 }
 
 // ---- Configuration and request
 
 // What is known of a remote entity: an entry of the table.
+// Stays: the checksum type is a number, since a put is given any byte and refuses it (BadConfig).
 #[derive(Clone, Copy)]
 pub struct RemoteEntityConfig {
     pub id: EntityId,
@@ -108,6 +90,7 @@ pub struct RemoteEntityConfig {
 
 // Our own: the id, the fault action of each of sixteen conditions, the flags of two events, and the table, of which the first
 // `count` entries are looked at.
+// Stays: eight places and a count, as C has them; the actions are numbers, since a put is given any byte and refuses it (BadConfig).
 #[derive(Clone, Copy)]
 pub struct LocalEntityConfig {
     pub id: EntityId,
@@ -118,34 +101,29 @@ pub struct LocalEntityConfig {
     pub count: usize,
 }
 
-// A put's own word, or the entry's.
-#[derive(Clone, Copy)]
-pub enum Choice {
-    Given(bool),
-    Default,
-}
-
+// Mode and closure are the put's own word, or, where it has none, the entry's.
 #[derive(Clone, Copy)]
 pub struct PutRequest {
     pub destination: EntityId,
-    pub unacknowledged: Choice,
-    pub closure: Choice,
+    pub unacknowledged: Option<bool>,
+    pub closure: Option<bool>,
 }
 
 // ---- State
 
 #[derive(Clone, Copy)]
 pub enum TransactionStep {
-    Idle,
-    SendingMetadata,
-    SendingFileData,
-    SendingEof,
-    WaitingForEofAck,
-    WaitingForFinished,
-    Closing,
+    Idle = 0,
+    SendingMetadata = 1,
+    SendingFileData = 2,
+    SendingEof = 3,
+    WaitingForEofAck = 4,
+    WaitingForFinished = 5,
+    Closing = 6,
 }
 
 // What a put fixes; `segment` is L and `size` is S.
+// Stays: the checksum type and the actions are numbers, since a handler's memory may hold any byte here.
 #[derive(Clone, Copy)]
 pub struct Fixed {
     pub head: Head,
@@ -160,6 +138,7 @@ pub struct Fixed {
 }
 
 // Both names, copied; zeros behind.
+// Stays: bytes and a length, as C has them; no heap.
 #[repr(C)]
 #[derive(Clone, Copy)]
 pub struct Names {
@@ -170,6 +149,7 @@ pub struct Names {
 }
 
 // What an EOF says.
+// Stays: the condition is a number, as document 01 and 727 have it.
 #[repr(C)]
 #[derive(Clone, Copy)]
 pub struct Eof {
@@ -187,6 +167,7 @@ pub struct FileParams {
 }
 
 // Pending requests, the oldest first; the places from `count` on are zero.
+// Stays: 64 places and a count, as C has them; no heap.
 #[repr(C)]
 #[derive(Clone, Copy)]
 pub struct Queue {
@@ -195,6 +176,7 @@ pub struct Queue {
 }
 
 // The cancel mark, whether its EOF is still owed, its condition; the expiry count; the Finished PDU's values; the Rust's anomaly count.
+// Stays: the condition is a number, which a user's cancel and document 01 give.
 #[derive(Clone, Copy)]
 pub struct Marks {
     pub cancelled: bool,
@@ -269,27 +251,18 @@ pub enum Sending {
 #[derive(Clone, Copy)]
 pub struct TransactionId(pub EntityId, pub TransactionSeqNum);
 
+// Stays: action and condition are document 01's numbers, which C and `Told` (rules, Events) have.
 #[derive(Clone, Copy)]
-pub enum FaultEvent {
-    NoFault,
-    Fault {
-        action: u8,
-        condition: u8,
-        progress: u64,
-    },
+pub struct Fault {
+    pub action: u8,
+    pub condition: u8,
+    pub progress: u64,
 }
 
 #[derive(Clone, Copy)]
-pub enum FinishedEvent {
-    NotFinished,
-    Finished(FinishedParams),
-}
-
-#[derive(Clone, Copy)]
-pub enum TimerEvent {
-    NoTimer,
-    AckTimer,
-    CheckTimer,
+pub enum Timer {
+    Ack = 1,
+    Check = 2,
 }
 
 #[derive(Clone, Copy)]
@@ -297,83 +270,52 @@ pub struct Events {
     pub id: TransactionId,
     pub transaction: bool,
     pub eofsent: bool,
-    pub fault: FaultEvent,
-    pub finished: FinishedEvent,
-    pub timer: TimerEvent,
+    pub fault: Option<Fault>,
+    pub finished: Option<FinishedParams>,
+    pub timer: Option<Timer>,
 }
 
 // ---- Answers
 
 #[derive(Clone, Copy)]
 pub enum Refusal {
-    AlreadyBusy,
-    BadIdWidth,
-    NoRemoteCfgFound,
-    BadConfig,
-    BadNameLength,
-    SourceFileNotValidUtf8,
-    DestFileNotValidUtf8,
-    PacketLimit,
-    Malformed,
-    CantProcessPacketType,
-    UnexpectedPdu,
-    OtherTransaction,
-    InvalidNakPdu,
-    RetransmitFull,
-    FileChanged,
-    OutTooSmall,
-    BurstTooLong,
-}
-
-#[derive(Clone, Copy)]
-pub enum Answer {
-    Accepted,
-    Refused(Refusal),
-}
-
-// Of a put.
-#[derive(Clone, Copy)]
-pub struct Done {
-    pub answer: Answer,
-    pub state: State,
+    AlreadyBusy = 1,
+    BadIdWidth = 2,
+    NoRemoteCfgFound = 3,
+    BadConfig = 4,
+    BadNameLength = 5,
+    SourceFileNotValidUtf8 = 6,
+    DestFileNotValidUtf8 = 7,
+    PacketLimit = 8,
+    Malformed = 20,
+    CantProcessPacketType = 21,
+    UnexpectedPdu = 22,
+    OtherTransaction = 23,
+    InvalidNakPdu = 24,
+    RetransmitFull = 25,
+    FileChanged = 30,
+    OutTooSmall = 31,
+    BurstTooLong = 32,
 }
 
 // Of a delivery: how many of the delivered bytes are the PDU's, on a refusal too (0: Malformed).
 #[derive(Clone, Copy)]
-pub struct Delivered {
-    pub answer: Answer,
+pub struct Delivery {
+    pub answer: Result<(), Refusal>,
     pub length: usize,
-    pub state: State,
 }
 
-// Of a step: how many bytes of the out buffer are the PDU (0: none), and the events.
-#[derive(Clone, Copy)]
-pub struct Stepped {
-    pub answer: Answer,
-    pub length: usize,
-    pub events: Events,
-    pub state: State,
-}
-
-// What a step of a burst made: how many bytes of the out buffer are its PDU (0: none), and its events.
+// What a step made: how many bytes of the out buffer are its PDU (0: none), and its events.
 #[derive(Clone, Copy)]
 pub struct Made {
     pub length: usize,
     pub events: Events,
 }
 
-// Of a burst: how many steps were made, and what each made; the places behind are blank.
+// What a burst made: how many steps, and what each of them made; the places behind are blank.
+// Stays: a count beside sixteen places, since no heap is there.
 #[derive(Clone, Copy)]
-pub struct Bursted {
-    pub answer: Answer,
+pub struct Burst {
     pub count: usize,
     pub steps: [Made; 16],
-    pub state: State,
-}
-
-// Of a cancel.
-#[derive(Clone, Copy)]
-pub struct Cancelled {
-    pub yes: bool,
-    pub state: State,
 }
