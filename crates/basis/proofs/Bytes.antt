@@ -105,9 +105,6 @@ num-grows v b i h k =
     let e : 8 * (i + 1) ≡ 8 * i + 8 = omega arith in
     rw (e, pow-add 2 (8 * i) 8) (omega arith)
 
-pub num-fits : (v b i : ℕ) → v < 2 ^ (8 * i) → b < 256 → i < 8 → v * 256 + b < 2 ^ 64
-num-fits v b i h k l = lt_of_lt_of_le (num-grows v b i h k) (pow_mono {j = 64} (omega arith))
-
 -- a part that ends where the list ends, or before
 pub part-min : (s : List ℕ) (at w : ℕ) → take (at + min w (length s - at) - at) (drop at s) ≡ part s at w
 unfolding part

@@ -1,14 +1,15 @@
 -- Laws of bytes laid over a buffer: one write after another is one write of the bytes joined.
 -- Assumes nothing.
 use mathlib.Core.Path.{◌≡◌, refl, sym, ap, ◌∙◌}
-use mathlib.Core.List.{List, [], ◌∷◌, ◌++◌, append-nil}
+use mathlib.Core.List.{List, [], ◌∷◌, ◌++◌, append-nil, append_assoc}
 use Prim.Native.Nat.{ℕ, zero, suc, ◌+◌, ◌-◌, ◌*◌, ◌/◌, ◌%◌, ◌^◌, ◌<◌, ◌≤◌}
-use native.Mathlib.Nat.{add-zero, add-suc, suc-add, zero-add, not-suc-le-zero}
+use native.Mathlib.Nat.{add-zero, add-suc, suc-add, zero-add, not-suc-le-zero, div-one}
 use native.Mathlib.Numerals.{add-one, sub-one, unary_clauses}
 use native.Mathlib.Omega.{arith}
 use borrow.Author.Tests.{lt-ltb, le-ltb}
-use lib.ListN.{length, get_or, take, drop, set, drop_of_length-le}
-use lib.Seq.{sets-eq, drop-cons, take-append_seam, length-sets}
+use lib.ListN.{length, take, drop, set}
+use borrow.Rule.Slice.PartMut.{put_mid}
+use lib.Seq.{sets-eq, drop-drop, take-append_seam, length-sets}
 use Rattle.basis.specs.Bytes.{be}
 use Rattle.basis.specs.Laid.{laid, in_front}
 use Rattle.basis.proofs.Bytes.{length-be}
@@ -25,15 +26,15 @@ unfolding be laid
 be-done l p zero v h = refl
 be-done l p (suc k) v h = absurd (not-suc-le-zero h)
 
--- a number of one byte, and one of four, byte by byte
+-- a number of one byte
 pub be-one : (l : List ℕ) (p v a : ℕ) → a ≡ v / 2 ^ (8 * 0) % 256 → set l p a ≡ laid l p (be 1 v)
 unfolding be laid
 be-one l p v a e = rw e refl
 
-pub be-four : (l : List ℕ) (p v a b c d : ℕ) → a ≡ v / 2 ^ (8 * 3) % 256 → b ≡ v / 2 ^ (8 * 2) % 256 → c ≡ v / 2 ^ (8 * 1) % 256 → d ≡ v / 2 ^ (8 * 0) % 256
-    → set (set (set (set l p a) (p + 1) b) (p + 2) c) (p + 3) d ≡ laid l p (be 4 v)
-unfolding be laid
-be-four l p v a b c d e f g h = rw (e, f, g, h) (simp unary_clauses refl)
+-- the last four of std's bytes of a number
+pub be-four : (v : ℕ) → be 4 v ≡ v / 16777216 % 256 ∷ v / 65536 % 256 ∷ v / 256 % 256 ∷ v % 256 ∷ []
+unfolding be
+be-four v = simp (unary_clauses, div-one)
 
 pub laid_none : (l : List ℕ) (i : ℕ) → laid l i [] ≡ l
 unfolding laid
@@ -50,14 +51,10 @@ laid-append l i [] ys = simp add-zero
 laid-append l i (x ∷ xs) ys =
     laid-append (set l i x) (suc i) xs ys ∙ ap (λ (n : ℕ). laid (laid (set l i x) (suc i) xs) n ys) (suc-add i (length xs) ∙ sym (add-suc i (length xs)))
 
--- one byte of a run, then the rest
-pub run_step : (l s : List ℕ) (at i : ℕ) → i < length s
-    → laid (set l (at + i) (get_or s i 0)) (at + (i + 1)) (drop (i + 1) s) ≡ laid l (at + i) (drop i s)
+-- a run written over its part of the buffer
+pub laid-part : (l bs : List ℕ) (i k : ℕ) → k ≡ length bs → i + length bs ≤ length l → put_mid i k l bs ≡ laid l i bs
 unfolding laid
-run_step l s at i h = rw (add-one, add-suc, drop-cons s i 0)
-
-pub run-done : (l s : List ℕ) (p i : ℕ) → length s ≤ i → laid l p (drop i s) ≡ l
-run-done l s p i h = simp (drop_of_length-le s h, laid_none)
+laid-part l bs i k e h = rw (e, drop-drop (length bs) i l) (sym (rw append_assoc at (sets-eq bs l i h)))
 
 -- ---- what a caller of put_be and put_bytes cites
 

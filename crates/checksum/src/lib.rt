@@ -6,11 +6,10 @@
 mod tables;
 
 ghost use Rattle.std.specs.Prelude.{◌≡◌, take};
-ghost use Rattle.rules_leaves.specs.Checksum.{word, modular_from, modular, at_place, modular_at, reversed, crc32_on, castagnoli, ethernet, checksum_of, sum_on, crc16};
+ghost use Rattle.rules_leaves.specs.Checksum.{modular_from, modular, at_place, modular_at, reversed, crc32_on, checksum_of, sum_on, crc16};
 ghost use Rattle.checksum.specs.Tables.{table_from, eights};
 
 use crate::tables::{EIGHTS_16, EIGHTS_32, EIGHTS_32C};
-use types::Checksum;
 
 // ---- type 0: the modular checksum
 
@@ -33,19 +32,11 @@ fn modular_bytes(start: u32, n: u64, s: &[u8]) -> u32
 {
     let mut sum = start;
     let mut k = n % 4;
-    let mut i = 0;
-    while i < s.len() {
-        sum = std::num::wrapping_add_u32(sum, at_place(k, s[i]));
+    for &b in s {
+        sum = sum.wrapping_add(at_place(k, b));
         k = (k + 1) % 4;
-        i += 1;
     }
     sum
-}
-
-fn word(a: u8, b: u8, c: u8, d: u8) -> u32
-    ensures { result ≡ word a b c d }
-{
-    (a as u32) * 16777216 + (b as u32) * 65536 + (c as u32) * 256 + (d as u32)
 }
 
 // From the sum of whole words before these: a word at a time, the bytes behind the last whole one by themselves.
@@ -53,13 +44,12 @@ fn modular_from(start: u32, s: &[u8]) -> u32
     ensures { result ≡ modular_from start s.now }
 {
     let mut sum = start;
-    let mut i = 0;
-    let end = s.len() / 4 * 4;
-    while i < end {
-        sum = std::num::wrapping_add_u32(sum, word(s[i], s[i + 1], s[i + 2], s[i + 3]));
-        i += 4;
+    let words = s.chunks_exact(4);
+    let rest = words.remainder();
+    for w in words {
+        sum = sum.wrapping_add(u32::from_be_bytes([w[0], w[1], w[2], w[3]]));
     }
-    modular_bytes(sum, 0, &s[i..])
+    modular_bytes(sum, 0, rest)
 }
 
 // From the sum of the n bytes before these: the word that they leave begun is ended first.
@@ -70,8 +60,8 @@ fn modular_on(sum: u32, n: u64, s: &[u8]) -> u32
     if s.len() < wanted {
         return modular_bytes(sum, n, s);
     }
-    let ended = modular_bytes(sum, n, &s[..wanted]);
-    modular_from(ended, &s[wanted..])
+    let (first, rest) = s.split_at(wanted);
+    modular_from(modular_bytes(sum, n, first), rest)
 }
 
 pub fn calc_modular_checksum(s: &[u8]) -> u32
@@ -82,18 +72,17 @@ pub fn calc_modular_checksum(s: &[u8]) -> u32
 
 // ---- the CRCs, a byte at a time by a table
 
-// From what the CRC was after the bytes before these: the byte that falls out picks what is added to the rest. Callers copy their constant table to a
-// local once and lend it: a `const` that is indexed in the loop is copied at each use.
+// From what the CRC was after the bytes before these: the byte that falls out picks what is added to the rest. Not put into its
+// callers, where the table's address is worked out anew in the loop.
+#[inline(never)]
 fn by_table(t: &[u32; 256], start: u32, s: &[u8]) -> u32
     ensures { result ≡ table_from t.now start s.now }
 {
     let mut c = start;
-    let mut i = 0;
-    while i < s.len() {
-        let x = c ^ (s[i] as u32);
+    for &b in s {
+        let x = c ^ (b as u32);
         let low = (x % 256) as usize;
         c = (x >> 8) ^ t[low];
-        i += 1;
     }
     c
 }
@@ -106,50 +95,34 @@ pub const CRC_32C: u32 = 0x82F6_3B78;
 // Of 0x04C11DB7 (Ethernet's, CRC-32):
 pub const CRC_32: u32 = 0xEDB8_8320;
 
-// p is the polynomial reversed, t its table. From the number of the bytes before these, 0 where there are none: its final xor is taken back.
-fn crc32(p: u32, t: &[u32; 256], sum: u32, s: &[u8]) -> u32
-    requires { t.now ≡ eights p }
-    ensures { result ≡ crc32_on (reversed 32 p 0) sum s.now }
+// P is the polynomial reversed, t its table. From the number of the bytes before these, 0 where there are none: its final xor is taken back.
+fn crc32<const P: u32>(t: &[u32; 256], sum: u32, s: &[u8]) -> u32
+    requires { t.now ≡ eights P }
+    ensures { result ≡ crc32_on (reversed 32 P 0) sum s.now }
 {
     by_table(t, sum ^ 0xFFFF_FFFF, s) ^ 0xFFFF_FFFF
 }
 
-fn crc32_castagnoli(sum: u32, s: &[u8]) -> u32
-    ensures { result ≡ crc32_on castagnoli sum s.now }
-{
-    let t = EIGHTS_32C;
-    crc32(CRC_32C, &t, sum, s)
-}
-
-fn crc32_ethernet(sum: u32, s: &[u8]) -> u32
-    ensures { result ≡ crc32_on ethernet sum s.now }
-{
-    let t = EIGHTS_32;
-    crc32(CRC_32, &t, sum, s)
-}
-
 // ---- by type
 
-fn checksum_of(kind: u8, s: &[u8]) -> Checksum
+fn checksum_of(kind: u8, s: &[u8]) -> Option<u32>
     ensures { result ≡ checksum_of kind s.now }
 {
+    // Stays: the type is a number, and any is taken, as the definitions `checksum_of` and `sum_on` have it.
     match kind {
-        0 => Checksum::Is(calc_modular_checksum(s)),
-        2 => Checksum::Is(crc32_castagnoli(0, s)),
-        3 => Checksum::Is(crc32_ethernet(0, s)),
-        15 => Checksum::Is(0),
-        _ => Checksum::UnknownType,
+        0 => Some(calc_modular_checksum(s)),
+        2 => Some(crc32::<CRC_32C>(&EIGHTS_32C, 0, s)),
+        3 => Some(crc32::<CRC_32>(&EIGHTS_32, 0, s)),
+        15 => Some(0),
+        _ => None,
     }
 }
 
 // The checksum of a file's first n bytes; of the whole file where it has no more.
-pub fn calculate_checksum(kind: u8, file: &[u8], n: usize) -> Checksum
+pub fn calculate_checksum(kind: u8, file: &[u8], n: usize) -> Option<u32>
     ensures { result ≡ checksum_of kind (take n file.now) }
 {
-    if n < file.len() {
-        return checksum_of(kind, &file[..n]);
-    }
-    checksum_of(kind, file)
+    checksum_of(kind, &file[..n.min(file.len())])
 }
 
 // A number goes on over more bytes: sum is that of the n bytes before these.
@@ -158,8 +131,8 @@ pub fn sum_on(kind: u8, sum: u32, n: u64, s: &[u8]) -> u32
 {
     match kind {
         0 => modular_on(sum, n, s),
-        2 => crc32_castagnoli(sum, s),
-        3 => crc32_ethernet(sum, s),
+        2 => crc32::<CRC_32C>(&EIGHTS_32C, sum, s),
+        3 => crc32::<CRC_32>(&EIGHTS_32, sum, s),
         _ => 0,
     }
 }
@@ -170,7 +143,5 @@ pub fn sum_on(kind: u8, sum: u32, n: u64, s: &[u8]) -> u32
 pub fn crc16(s: &[u8]) -> u16
     ensures { result ≡ crc16 s.now }
 {
-    let t = EIGHTS_16;
-    let c = by_table(&t, 0xFFFF, s);
-    ((c % 256) * 256 + c / 256) as u16
+    (by_table(&EIGHTS_16, 0xFFFF, s) as u16).swap_bytes()
 }

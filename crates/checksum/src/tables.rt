@@ -2,7 +2,7 @@
 // Made from the polynomials by tests/make_crc_tables.py. That each number is the right one is proved where its table is lent.
 
 // CRC-32C, of 0x1EDC6F41, reflected.
-pub const EIGHTS_32C: [u32; 256] = [
+pub static EIGHTS_32C: [u32; 256] = [
     0x0000_0000,
     0xF26B_8303,
     0xE13B_70F7,
@@ -262,7 +262,7 @@ pub const EIGHTS_32C: [u32; 256] = [
 ];
 
 // CRC-32, of 0x04C11DB7, reflected.
-pub const EIGHTS_32: [u32; 256] = [
+pub static EIGHTS_32: [u32; 256] = [
     0x0000_0000,
     0x7707_3096,
     0xEE0E_612C,
@@ -522,7 +522,7 @@ pub const EIGHTS_32: [u32; 256] = [
 ];
 
 // CRC-16, of 0x1021, not reflected; each number has its two bytes exchanged.
-pub const EIGHTS_16: [u32; 256] = [
+pub static EIGHTS_16: [u32; 256] = [
     0x0000, 0x2110, 0x4220, 0x6330, 0x8440, 0xA550, 0xC660, 0xE770, 0x0881, 0x2991, 0x4AA1, 0x6BB1,
     0x8CC1, 0xADD1, 0xCEE1, 0xEFF1, 0x3112, 0x1002, 0x7332, 0x5222, 0xB552, 0x9442, 0xF772, 0xD662,
     0x3993, 0x1883, 0x7BB3, 0x5AA3, 0xBDD3, 0x9CC3, 0xFFF3, 0xDEE3, 0x6224, 0x4334, 0x2004, 0x0114,

@@ -4,11 +4,11 @@
 
 ghost use Rattle.std.specs.Prelude.{◌≡◌};
 ghost use Rattle.basis.specs.Pick.{pick};
-ghost use Rattle.rules_leaves.specs.Utf8.{◌to◌, forms, within, broken, begun, onward, complete, is_utf8};
+ghost use Rattle.rules_leaves.specs.Utf8.{◌to◌, forms, within, broken, begun, onward, is_utf8};
 ghost use Rattle.utf8.specs.Meant.{meant};
 
 // What is due: a character or the end; so many tails; the narrower second byte after E0, ED, F0 or F4, and its tails. After Broken, nothing helps.
-#[derive(Clone, Copy)]
+#[derive(Clone, Copy, PartialEq, Eq)]
 enum Wait {
     Any,
     One,
@@ -25,50 +25,28 @@ enum Wait {
 fn within(lo: u8, hi: u8, on: Wait, b: u8) -> Wait
     ensures { meant result ≡ pick (within (lo to hi) b) (meant on) broken }
 {
-    if b < lo {
-        return Wait::Broken;
-    }
-    if hi < b {
-        return Wait::Broken;
-    }
-    on
+    if lo <= b && b <= hi { on } else { Wait::Broken }
 }
 
 // The first byte of a character.
 fn first(b: u8) -> Wait
     ensures { meant result ≡ begun b forms }
 {
+    // Most bytes are ASCII: tested for by itself, that costs less than as an arm.
     if b < 0x80 {
         return Wait::Any;
     }
-    if b < 0xC2 {
-        return Wait::Broken;
+    match b {
+        0xC2..=0xDF => Wait::One,
+        0xE0 => Wait::AfterE0,
+        0xE1..=0xEC => Wait::Two,
+        0xED => Wait::AfterED,
+        0xEE..=0xEF => Wait::Two,
+        0xF0 => Wait::AfterF0,
+        0xF1..=0xF3 => Wait::Three,
+        0xF4 => Wait::AfterF4,
+        _ => Wait::Broken,
     }
-    if b < 0xE0 {
-        return Wait::One;
-    }
-    if b < 0xE1 {
-        return Wait::AfterE0;
-    }
-    if b < 0xED {
-        return Wait::Two;
-    }
-    if b < 0xEE {
-        return Wait::AfterED;
-    }
-    if b < 0xF0 {
-        return Wait::Two;
-    }
-    if b < 0xF1 {
-        return Wait::AfterF0;
-    }
-    if b < 0xF4 {
-        return Wait::Three;
-    }
-    if b < 0xF5 {
-        return Wait::AfterF4;
-    }
-    Wait::Broken
 }
 
 // One byte further.
@@ -88,32 +66,13 @@ fn next(w: Wait, b: u8) -> Wait
     }
 }
 
-// No character begun and not ended.
-fn whole(w: Wait) -> bool
-    ensures { result ≡ complete (meant w) }
-{
-    match w {
-        Wait::Any => true,
-        Wait::One => false,
-        Wait::Two => false,
-        Wait::Three => false,
-        Wait::AfterE0 => false,
-        Wait::AfterED => false,
-        Wait::AfterF0 => false,
-        Wait::AfterF4 => false,
-        Wait::Broken => false,
-    }
-}
-
 // Whether the bytes are UTF-8; no bytes are.
 pub fn is_utf8(s: &[u8]) -> bool
     ensures { result ≡ is_utf8 s.now }
 {
     let mut w = Wait::Any;
-    let mut i = 0;
-    while i < s.len() {
-        w = next(w, s[i]);
-        i += 1;
+    for &b in s {
+        w = next(w, b);
     }
-    whole(w)
+    w == Wait::Any
 }

@@ -5,5 +5,5 @@ use Rattle.checksum.proofs.Linear.{table-crc}
 use Rattle.checksum.proofs.crc32.Goals as goal
 
 pub returns : goal.returns
-returns c = let b = c in
-    rw (c.by_table.ensures, b.requires, table-crc b.args.p _ b.args.s.now) (crc32-reversed _ _ _ (omega arith))
+returns g c = let b = c in
+    rw (c.by_table.ensures, b.requires, table-crc g.row.P _ b.args.s.now) (crc32-reversed _ _ _ (omega (arith, g.P.fits)))

@@ -1,20 +1,27 @@
--- What is left of the bytes, from the sum so far, always gives what all of them give from the start. Behind the whole words the sum goes on by bytes.
-use Rattle.std.proofs.Common.{◌∙◌, arith, rules}
-use Rattle.rules_leaves.specs.Checksum.{more}
-use Rattle.checksum.proofs.Words.{word-step, behind_words}
+-- One word less is left; at the end it is the bytes behind the last.
+use Rattle.std.proofs.Common.{◌≡◌, ◌<◌, length, sym, ap, ◌∙◌}
+use Rattle.std.specs.Slice.Iter.{chunks_exact_rest}
+use Rattle.rules_leaves.specs.Checksum.{more, modular_from}
+use Rattle.rules_leaves.proofs.Sums.{by_bytes}
+use Rattle.checksum.proofs.Words.{word_on, behind_word, behind_few}
 use Rattle.checksum.proofs.modular_from.Goals as goal
 
-pub loop-i-preserved : goal.loop-i-preserved
+pub loop-w-preserved : goal.loop-w-preserved
 unfolding more
-loop-i-preserved c =
-    let b = c in
-    let l = b.loop-i in (
-      search rules,
-      search rules,
-      rw (c.wrapping_add_u32-sum.ensures.value, c.word.ensures) (word-step l.sum b.args.s.now l.i (omega arith) ∙ l.invariant.2),
+loop-w-preserved c =
+    let e = c.in-Some.ensures.steps in
+    let i = c.loop-w.invariant in
+    let four = e.1.1 ∙ i.0 in (
+      e.0 ∙ i.0,
+      sym (behind_word _ _ four) ∙ rw e.1.0 at i.1,
+      rw c.from_be_bytes-sum.ensures (word_on _ c.in-Some.w.now _ four ∙ rw e.1.0 at i.2),
     )
 
 pub returns : goal.returns
 returns c =
-    let b = c in
-    c.modular_bytes.ensures ∙ behind_words b.loop-i.sum b.args.s.now b.loop-i.i ∙ b.loop-i.invariant.2
+    let e = c.in-None.ensures.steps in
+    let i = c.loop-w.invariant in
+    let t = chunks_exact_rest c.loop-w.w-iterator in
+    let few : length t < 4 = rw i.0 at e.1.0 in
+    let last : c.remainder-rest.result.now ≡ t = sym i.1 ∙ behind_few t few in
+    c.modular_bytes.ensures ∙ sym (by_bytes c.loop-w.sum c.remainder-rest.result.now) ∙ ap (modular_from c.loop-w.sum) last ∙ i.2
