@@ -10,6 +10,7 @@ use lib.Dec.{eqb, ltb}
 use lib.ListN.{length}
 use Rattle.basis.specs.Pick.{not}
 use Rattle.basis.proofs.Pick.{both, denied}
+use Rattle.pdu_read.proofs.Tests.{tests}
 use Rattle.rules_pdu.specs.Numbers.{good_width}
 use Rattle.rules_pdu.specs.Reading.{version_in, id_width_in, seq_width_in, h_in, end_in, well_framed}
 
@@ -22,3 +23,5 @@ head-there s t =
     let d = both (good_width (seq_width_in s)) _ c.1 in
     let e = both (not (ltb (length s) (end_in s))) _ d.1 in
     omega (arith, ltb-false (length s) (end_in s) (denied (ltb (length s) (end_in s)) e.0))
+
+pub ruleset framing = (tests, head-there)

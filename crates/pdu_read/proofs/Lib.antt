@@ -1,5 +1,6 @@
+pub mod Tests
 pub mod Framed
 pub mod Fields
 pub mod Tlvs
-pub mod Held
 pub mod Pairs
+pub mod Requests

@@ -27,10 +27,6 @@ module _ (s : List ℕ) (i : ℕ) (large : Bool) (a b c d : ℕ) where
   whole-large e h p q r t =
       rw (e, twice-four s i (i + 4) a b (omega arith) (omega arith) p q, twice-four s (i + 8) (i + 12) c d (omega arith) (omega arith) r t)
 
-  pub whole-small : large ≡ false → a ≡ num_at s i 4 → b ≡ num_at s (i + 4) 4 → record { start = a; end = b } ≡ request_at large s i
-  unfolding request_at
-  whole-small e p q = rw (e, p, q)
-
 pub behind : (large : Bool) (s : List ℕ) (i w : ℕ) → w ≡ F large → i + F large + F large ≤ length s → i + 2 * w ≡ (pair_at large s i).next
 unfolding pair_at
 behind large s i w e h = rw (min-eq_left h, e) (omega arith)

@@ -1,2 +1,3 @@
 pub mod Tlv
 pub mod Reader
+pub mod Directive

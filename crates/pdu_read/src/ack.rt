@@ -3,28 +3,20 @@ ghost use Rattle.std.specs.Prelude.{◌≡◌};
 ghost use Rattle.rules_pdu.specs.Reading.{ack_in};
 
 use crate::condition::is_reserved;
-use types::{Body, Meaning};
-
-// The acked code with the subtype that goes with it.
-const OF_EOF: u8 = 0x40;
-
-const OF_FINISHED: u8 = 0x51;
+use crate::directive::{OF_EOF, OF_FINISHED};
+use types::{Meaning, ReadError};
 
 // An ACK of Finished is read whole before it is refused.
-pub fn ack_in(b: &[u8]) -> Body
+#[tactic(auto, using(crate::proofs::Tests::tests), unfolding(rules_pdu::specs::Reading::ack_in, basis::specs::Bytes::byte))]
+pub fn ack_in(b: &[u8]) -> Result<Meaning, ReadError>
     ensures { result ≡ ack_in b.now }
 {
-    if b.len() != 3 {
-        return Body::Malformed;
+    if b.len() != 3 || is_reserved(b[2] >> 4) {
+        return Err(ReadError::Malformed);
     }
-    if is_reserved(b[2] >> 4) {
-        return Body::Malformed;
+    match b[1] {
+        OF_EOF => Ok(Meaning::AckOfEof),
+        OF_FINISHED => Err(ReadError::CantProcess),
+        _ => Err(ReadError::Malformed),
     }
-    if b[1] == OF_EOF {
-        return Body::Means(Meaning::AckOfEof);
-    }
-    if b[1] == OF_FINISHED {
-        return Body::CantProcess;
-    }
-    Body::Malformed
 }

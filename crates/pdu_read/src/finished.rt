@@ -4,7 +4,7 @@ ghost use Rattle.rules_pdu.specs.Reading.{value_of, tlv_next, closed, are_tlvs, 
 ghost use Rattle.pdu_read.specs.Tlv.{meant};
 
 use crate::condition::is_reserved;
-use types::{Body, FinishedParams, Meaning};
+use types::{FinishedParams, Meaning, ReadError};
 
 // Where a run of TLVs stands, byte by byte.
 #[derive(Clone, Copy)]
@@ -20,25 +20,15 @@ pub enum Tlv {
 fn value_of(k: u8) -> Tlv
     ensures { meant result ≡ value_of k }
 {
-    if k == 0 {
-        return Tlv::AtType;
-    }
-    Tlv::InValue(k - 1)
+    k.checked_sub(1).map_or(Tlv::AtType, Tlv::InValue)
 }
 
 fn tlv_next(t: Tlv, b: u8) -> Tlv
     ensures { meant result ≡ tlv_next (meant t) b }
 {
     match t {
-        Tlv::AtType => {
-            if b == 1 {
-                return Tlv::AtLength;
-            }
-            if b == 6 {
-                return Tlv::AtLength;
-            }
-            Tlv::Broken
-        }
+        Tlv::AtType if matches!(b, 1 | 6) => Tlv::AtLength,
+        Tlv::AtType => Tlv::Broken,
         Tlv::AtLength => value_of(b),
         Tlv::InValue(k) => value_of(k),
         Tlv::Broken => Tlv::Broken,
@@ -48,27 +38,21 @@ fn tlv_next(t: Tlv, b: u8) -> Tlv
 fn is_closed(t: Tlv) -> bool
     ensures { result ≡ closed (meant t) }
 {
-    match t {
-        Tlv::AtType => true,
-        Tlv::AtLength => false,
-        Tlv::InValue(_) => false,
-        Tlv::Broken => false,
-    }
+    matches!(t, Tlv::AtType)
 }
 
-// From a place to the end.
-fn are_tlvs(s: &[u8], from: usize) -> bool
-    ensures { result ≡ are_tlvs (drop from s.now) }
+#[tactic(auto, using(crate::proofs::Tlvs::running), unfolding(rules_pdu::specs::Reading::are_tlvs))]
+fn are_tlvs(s: &[u8]) -> bool
+    ensures { result ≡ are_tlvs s.now }
 {
     let mut t = Tlv::AtType;
-    let mut i = from;
-    while i < s.len() {
-        t = tlv_next(t, s[i]);
-        i += 1;
+    for b in s {
+        t = tlv_next(t, *b);
     }
     is_closed(t)
 }
 
+#[tactic(auto, unfolding(rules_pdu::specs::Reading::finished_params))]
 fn finished_params(b: u8) -> FinishedParams
     ensures { result ≡ finished_params b }
 {
@@ -79,18 +63,12 @@ fn finished_params(b: u8) -> FinishedParams
     }
 }
 
-pub fn finished_in(b: &[u8]) -> Body
+#[tactic(auto, using(crate::proofs::Tests::tests), unfolding(rules_pdu::specs::Reading::finished_in, basis::specs::Bytes::byte))]
+pub fn finished_in(b: &[u8]) -> Result<Meaning, ReadError>
     ensures { result ≡ finished_in b.now }
 {
-    if b.len() < 2 {
-        return Body::Malformed;
+    if b.len() < 2 || is_reserved(b[1] >> 4) || !are_tlvs(&b[2..]) {
+        return Err(ReadError::Malformed);
     }
-    if is_reserved(b[1] >> 4) {
-        return Body::Malformed;
-    }
-    if are_tlvs(b, 2) {
-        let p = finished_params(b[1]);
-        return Body::Means(Meaning::Finished(p));
-    }
-    Body::Malformed
+    Ok(Meaning::Finished(finished_params(b[1])))
 }

@@ -2,14 +2,15 @@
 // Byte 0 from the top: version 001 (3 bits), type, direction, mode, CRC flag, large flag; two bytes of data field
 // length; byte 3: segmentation control (1), id width - 1 (3), segment metadata flag (1), sequence width - 1 (3); then source id,
 // sequence number, destination id. With the CRC flag a CRC-16 closes the data field.
+#![tactic(auto, using(crate::proofs::Framed::framing), unfolding(rules_pdu::specs::Reading::bit_in, rules_pdu::specs::Reading::version_in, rules_pdu::specs::Reading::crc_in, rules_pdu::specs::Reading::length_in, rules_pdu::specs::Reading::id_width_in, rules_pdu::specs::Reading::seq_width_in, rules_pdu::specs::Numbers::good_width, rules_pdu::specs::Reading::head_in, rules_pdu::specs::Reading::unacknowledged_in, rules_pdu::specs::Reading::large_in, rules_pdu::specs::Reading::crc_agrees, basis::specs::Bytes::part, rules_pdu::specs::Reading::crc_good, rules_pdu::specs::Reading::well_framed, rules_pdu::specs::Reading::frame_in, rules_pdu::specs::Reading::file_data_in, rules_pdu::specs::Reading::to_sender_in, rules_pdu::specs::Reading::framed_in))]
 
 ghost use Rattle.std.specs.Prelude.{◌≡◌, ◌<◌, ◌≤◌, ◌^◌, length};
-ghost use Rattle.rules_pdu.specs.Numbers.{good_width, C};
+ghost use Rattle.rules_pdu.specs.Numbers.{good_width};
 ghost use Rattle.rules_pdu.specs.Reading.{bit_in, version_in, crc_in, length_in, id_width_in, seq_width_in, head_in, h_in, end_in, crc_agrees, crc_good, well_framed, frame_in, framed_in};
 
-use crate::field::{byte_at, num_in, num_of, part_of};
+use crate::field::{byte_at, crc_length, num_in, num_of, part_of};
 use checksum::crc16;
-use types::{EntityId, Frame, Framed, Head, TransactionSeqNum};
+use types::{EntityId, Frame, Head, TransactionSeqNum};
 
 // ---- byte 0
 
@@ -57,28 +58,7 @@ fn seq_width(s: &[u8]) -> u8
 fn good_width(w: u8) -> bool
     ensures { result ≡ good_width w }
 {
-    if w == 1 {
-        return true;
-    }
-    if w == 2 {
-        return true;
-    }
-    if w == 4 {
-        return true;
-    }
-    w == 8
-}
-
-fn good_id_width(s: &[u8]) -> bool
-    ensures { result ≡ good_width (id_width_in s.now) }
-{
-    good_width(id_width(s))
-}
-
-fn good_seq_width(s: &[u8]) -> bool
-    ensures { result ≡ good_width (seq_width_in s.now) }
-{
-    good_width(seq_width(s))
+    matches!(w, 1 | 2 | 4 | 8)
 }
 
 // ---- what the header says
@@ -125,13 +105,6 @@ fn pdu_end(s: &[u8]) -> usize
     head_length(s) + data_length(s)
 }
 
-// C
-fn crc_length(s: &[u8]) -> usize
-    ensures { (result ≡ C (crc_in s.now)) × (result ≤ 2) }
-{
-    if has_crc(s) { 2 } else { 0 }
-}
-
 fn crc_agrees(s: &[u8]) -> bool
     ensures { result ≡ crc_agrees s.now }
 {
@@ -144,34 +117,18 @@ fn crc_agrees(s: &[u8]) -> bool
 fn crc_good(s: &[u8]) -> bool
     ensures { result ≡ crc_good s.now }
 {
-    if !has_crc(s) {
-        return true;
-    }
-    if data_length(s) < 2 {
-        return false;
-    }
-    crc_agrees(s)
+    !has_crc(s) || data_length(s) >= 2 && crc_agrees(s)
 }
 
 fn well_framed(s: &[u8]) -> bool
     ensures { result ≡ well_framed s.now }
 {
-    if s.len() < 4 {
-        return false;
-    }
-    if version(s) != 1 {
-        return false;
-    }
-    if !good_id_width(s) {
-        return false;
-    }
-    if !good_seq_width(s) {
-        return false;
-    }
-    if s.len() < pdu_end(s) {
-        return false;
-    }
-    crc_good(s)
+    s.len() >= 4
+        && version(s) == 1
+        && good_width(id_width(s))
+        && good_width(seq_width(s))
+        && pdu_end(s) <= s.len()
+        && crc_good(s)
 }
 
 fn frame_in(s: &[u8]) -> Frame
@@ -185,7 +142,7 @@ fn frame_in(s: &[u8]) -> Frame
     let start = head_length(s);
     let length = pdu_end(s);
     // the body ends in front of its CRC
-    let end = length - crc_length(s);
+    let end = length - crc_length(has_crc(s));
     Frame {
         head,
         filedata,
@@ -196,12 +153,11 @@ fn frame_in(s: &[u8]) -> Frame
     }
 }
 
-pub fn read_header(s: &[u8]) -> Framed
+pub fn read_header(s: &[u8]) -> Option<Frame>
     ensures { result ≡ framed_in s.now }
 {
     if well_framed(s) {
-        let f = frame_in(s);
-        return Framed::Whole(f);
+        return Some(frame_in(s));
     }
-    Framed::Malformed
+    None
 }

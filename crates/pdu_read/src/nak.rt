@@ -1,39 +1,37 @@
 // A NAK's body and its requests read: any bytes are taken, and each function is equal to its definition (`rules_pdu`; the reader's in specs/).
 // 8 NAK: scope start, scope end, then pairs start, end, F bytes each; the scope is not judged.
 ghost use Rattle.std.specs.Prelude.{◌≡◌, ◌+◌, ◌≤◌, length};
+ghost use Rattle.std.specs.Iterator.{YieldsFirst, item_count};
 ghost use Rattle.basis.specs.Bytes.{num_at};
 ghost use Rattle.rules_pdu.specs.Numbers.{F};
 ghost use Rattle.rules_pdu.specs.Reading.{nak_in, request_at};
-ghost use Rattle.pdu_read.specs.Reader.{pair_at, opened, moved_to, pair_of};
+ghost use Rattle.pdu_read.specs.Reader.{pair_at, left_of};
 
 use crate::field::{num_of, size_width};
 use basis::fields::four;
-use types::{Body, Meaning, SegmentRequest};
+use types::{Meaning, ReadError, SegmentRequest};
 
-pub fn nak_in(large: bool, b: &[u8]) -> Body
+#[tactic(auto, using(crate::proofs::Tests::tests), unfolding(rules_pdu::specs::Reading::nak_in, rules_pdu::specs::Reading::request_count))]
+pub fn nak_in(large: bool, b: &[u8]) -> Result<Meaning, ReadError>
     ensures { result ≡ nak_in large b.now }
 {
     let f = size_width(large);
     let scope = 1 + 2 * f;
-    if b.len() < scope {
-        return Body::Malformed;
+    if b.len() < scope || (b.len() - scope) % (2 * f) != 0 {
+        return Err(ReadError::Malformed);
     }
-    let n = b.len() - scope;
-    if n % (2 * f) == 0 {
-        return Body::Means(Meaning::Nak(n / (2 * f)));
-    }
-    Body::Malformed
+    Ok(Meaning::Nak((b.len() - scope) / (2 * f)))
 }
 
+// Stays: bytes, width and place apart in the functions below the reader, which is the struct of them: `request_at` and `num_at` take them so.
+
 // The number that stands F bytes behind a place; 0 past the end.
+#[tactic(auto, using(crate::proofs::Fields::cutting))]
 fn size_behind(s: &[u8], large: bool, at: usize) -> u64
     ensures { result ≡ num_at s.now (at + F large) (F large) }
 {
     let f = size_width(large);
-    if s.len() <= at {
-        return 0;
-    }
-    if s.len() - at <= f {
+    if s.len() <= at || s.len() - at <= f {
         return 0;
     }
     num_of(s, at + f, f)
@@ -47,6 +45,8 @@ pub struct Pair {
 }
 
 // Where the bytes end before the pair does: what is there of it. They end there too.
+#[tactic(auto, unfolding(rules_pdu::specs::Reading::request_at, crate::specs::Reader::pair_at))]
+#[cold]
 fn pair_cut(s: &[u8], large: bool, at: usize) -> Pair
     requires { length s.now ≤ at + F large + F large }
     ensures { result ≡ pair_at large s.now at }
@@ -60,6 +60,7 @@ fn pair_cut(s: &[u8], large: bool, at: usize) -> Pair
 }
 
 // Numbers of four bytes, or of twice four.
+#[tactic(auto, unfolding(rules_pdu::specs::Reading::request_at))]
 fn request_whole(s: &[u8], large: bool, at: usize) -> SegmentRequest
     requires { at + F large + F large ≤ length s.now }
     ensures { result ≡ request_at large s.now at }
@@ -78,60 +79,46 @@ fn request_whole(s: &[u8], large: bool, at: usize) -> SegmentRequest
 }
 
 // One request, from any place of the delivered bytes, and the place of the next one.
-pub fn pair_at(s: &[u8], large: bool, at: usize) -> Pair
-    ensures { result ≡ pair_at large s.now at }
+#[tactic(auto, using(crate::proofs::Pairs::behind), unfolding(crate::specs::Reader::pair_at))]
+pub fn pair_from(pdu: &[u8], large: bool, at: usize) -> Pair
+    ensures { result ≡ pair_at large pdu.now at }
 {
     let w = 2 * size_width(large);
-    if s.len() <= at {
-        return pair_cut(s, large, at);
+    if pdu.len() <= at || pdu.len() - at < w {
+        return pair_cut(pdu, large, at);
     }
-    if s.len() - at < w {
-        return pair_cut(s, large, at);
-    }
-    let request = request_whole(s, large, at);
+    let request = request_whole(pdu, large, at);
     Pair {
         request,
         next: at + w,
     }
 }
 
-// ---- the requests of a delivered NAK, one after the other
-
-// The delivered bytes and a place among them. Its functions are thin: the work is `pair_at`'s.
+// The requests of a delivered NAK, one after the other: the delivered bytes, a place among them, and how many are left from there on. The work is `pair_from`'s.
 #[derive(Clone, Copy)]
 pub struct NakPduReader<'a> {
     pub pdu: &'a [u8],
-    pub at: usize,
     pub large: bool,
+    pub at: usize,
+    pub left: usize,
 }
 
-impl<'a> NakPduReader<'a> {
-    pub fn new(pdu: &'a [u8], large: bool) -> Self
-        ensures { result ≡ opened pdu.entry large }
-    {
-        NakPduReader { pdu, at: 0, large }
-    }
+impl<'a> Iterator for NakPduReader<'a> {
+    type Item = SegmentRequest;
 
-    pub fn moved(self, at: usize) -> Self
-        ensures { result ≡ moved_to self.entry at }
-    {
-        NakPduReader {
-            pdu: self.pdu,
-            at,
-            large: self.large,
+    ghost next_gives = { YieldsFirst left_of };
+
+    ghost remaining = { item_count left_of };
+
+    #[tactic(auto, using(crate::proofs::Requests::first, crate::proofs::Requests::none), unfolding(crate::specs::Reader::pair_at))]
+    #[inline(always)]
+    fn next(&mut self) -> Option<SegmentRequest> {
+        if self.left == 0 {
+            return None;
         }
+        let Pair { request, next } = pair_from(self.pdu, self.large, self.at);
+        self.at = next;
+        self.left -= 1;
+        Some(request)
     }
-
-    pub fn next(self) -> Pair
-        ensures { result ≡ pair_of self.entry }
-    {
-        pair_at(self.pdu, self.large, self.at)
-    }
-}
-
-// The pair at a place, for callers that hold no reader.
-pub fn pair_from(pdu: &[u8], large: bool, at: usize) -> Pair
-    ensures { result ≡ pair_at large pdu.now at }
-{
-    NakPduReader::new(pdu, large).moved(at).next()
 }

@@ -1,24 +1,33 @@
 -- The frame of a PDU, over any body: what a writer leaves that refused, or wrote header, body and CRC one behind the other.
 -- Assumes nothing.
-use mathlib.Core.Path.{◌≡◌, sym, ap, ◌∙◌}
-use mathlib.Core.Bool.{Bool, true, false}
-use mathlib.Core.List.{List, [], ◌++◌}
+use mathlib.Core.Path.{◌≡◌, refl, sym, ◌∙◌}
+use mathlib.Core.Bool.{Bool, false}
+use mathlib.Core.List.{List, [], ◌++◌, append-nil}
 use Prim.Native.Nat.{ℕ, ◌+◌, ◌<◌, ◌≤◌}
 use native.Mathlib.Omega.{arith}
 use native.Mathlib.Nat.{zero-add}
 use borrow.Author.Tests.{lt-ltb, le-ltb}
+use lib.Seq.{length-take-le}
 use lib.ListN.{length, take, length-append}
-use Rattle.basis.specs.Bytes.{be}
+use Rattle.std.specs.Option.{SomeIff, IsSome}
+use Rattle.std.proofs.lemmas.Bool.Decides.{nat_tests}
+use Rattle.std.specs.declared.option.Option.{Option}
+use Rattle.std.specs.declared.option.Option.TheVariants.{None, Some}
 use Rattle.basis.specs.Laid.{laid, in_front}
-use Rattle.basis.proofs.Laid.{laid_none, then, take-front, in_front_lem, kept}
+use Rattle.basis.proofs.Bytes.{length-be}
+use Rattle.basis.proofs.Laid.{laid-append, laid_none, then, take-front, in_front_lem, kept}
 use Rattle.rules_pdu.specs.Fields.{sizes}
 use Rattle.rules_pdu.specs.Numbers.{H, C}
-use Rattle.rules_leaves.specs.Checksum.{crc16}
 use Rattle.rules_pdu.specs.Layout.{Said, head_fields, head_bytes, layout, trailer, pdu_bytes, is_file_data, body_bytes, encode, pdu_length, written_of}
 use Rattle.types.specs.declared.Head.{Head}
-use Rattle.types.specs.declared.Written.TheVariants.{Short, Wrote}
 use Rattle.rules_pdu.proofs.Places.{length-wire}
 use Rattle.rules_pdu.proofs.Round.{length-encode}
+
+-- fields laid one behind the other are laid at once
+pub ruleset laying = (laid-append, length-be, append-nil)
+
+-- .. and the CRC behind them, or none
+pub ruleset closing = (length-take-le, laid_none)
 
 -- ---- lengths: a layout is as long as its fields together
 
@@ -35,24 +44,31 @@ pub has_room : (h : Head) (m : Said) (l : List ℕ) → length (encode h m) ≤ 
 unfolding pdu_length
 has_room h m l fits = rw (length-encode h m) at fits
 
--- ---- the CRC where there is one
-
-pub crc-put : (crc : Bool) (l l₁ : List ℕ) (n r sum : ℕ) → crc ≡ true → sum ≡ crc16 (take n l) → (r ≡ n + 2) × (l₁ ≡ laid l n (be 2 sum))
-    → (r ≡ n + C crc) × (l₁ ≡ laid l n (trailer crc (take n l)))
-unfolding trailer
-crc-put crc l l₁ n r sum e s p = rw (e, ← s) p
-
-pub crc-left : (crc : Bool) (l : List ℕ) (n : ℕ) → crc ≡ false → (n ≡ n + C crc) × (l ≡ laid l n (trailer crc (take n l)))
-unfolding trailer
-crc-left crc l n e = rw e (omega arith, sym (laid_none l n))
-
 -- ---- what a writer leaves
 
-pub refused : (h : Head) (m : Said) (l : List ℕ) → length l < pdu_length h m → (Short ≡ written_of (encode h m) l) × (l ≡ in_front (encode h m) l)
+-- a length that fits is there
+pub there : (r : Option ℕ) (P : Type 0) (v : ℕ) → SomeIff r P v → P → IsSome r
+there None P v h p = absurd (h p)
+there (Some x) P v h p = refl
+
+pub fits : (h : Head) (m : Said) (l : List ℕ) → pdu_length h m ≤ length l → length (encode h m) ≤ length l
+fits h m l room = rw (length-encode h m) room
+
+short : (h : Head) (m : Said) (l : List ℕ) → length l < pdu_length h m → length l < length (encode h m)
+short h m l room = rw (length-encode h m) room
+
+pub refused : (h : Head) (m : Said) (l : List ℕ) → length l < pdu_length h m → written_of (encode h m) l ≡ None
 unfolding written_of
-refused h m l short =
-    let s : length l < length (encode h m) = rw (length-encode h m) short in
-    (rw (lt-ltb _ _ s), kept l (encode h m) s)
+refused h m l room = rw (lt-ltb _ _ (short h m l room))
+
+pub left : (h : Head) (m : Said) (l : List ℕ) → length l < pdu_length h m → in_front (encode h m) l ≡ l
+left h m l room = sym (kept l (encode h m) (short h m l room))
+
+pub written : (h : Head) (m : Said) (l : List ℕ) → pdu_length h m ≤ length l → written_of (encode h m) l ≡ Some (length (encode h m))
+unfolding written_of
+written h m l room = rw (le-ltb _ _ (fits h m l room))
+
+pub ruleset writing = (nat_tests, fits, refused, left, written)
 
 -- header, body and CRC, each behind the one before
 whole : (h : Head) (m : Said) (l l₁ l₂ l₃ : List ℕ) (n a b : ℕ) → length (encode h m) ≤ length l
@@ -82,15 +98,3 @@ pub placed : (h : Head) (m : Said) (l l₁ l₂ l₃ : List ℕ) (n a b e : ℕ)
 unfolding pdu_length
 placed h m l l₁ l₂ l₃ n a b e fits en p q r =
     (rw (length-encode h m) (omega arith), whole h m l l₁ l₂ l₃ n a b fits en p q r.1 ∙ in_front_lem l (encode h m) fits)
-
-pub written : (h : Head) (m : Said) (l l₁ l₂ l₃ : List ℕ) (n a b e : ℕ) → pdu_length h m ≤ length l
-    → n ≡ sizes (layout h.large m) + C h.crc
-    → (a ≡ H h) × (l₁ ≡ laid l 0 (head_bytes h (is_file_data m) false n))
-    → (b ≡ a + sizes (layout h.large m)) × (l₂ ≡ laid l₁ a (body_bytes h.large m))
-    → (e ≡ b + C h.crc) × (l₃ ≡ laid l₂ b (trailer h.crc (take b l₂)))
-    → (Wrote e ≡ written_of (encode h m) l) × (l₃ ≡ in_front (encode h m) l)
-unfolding written_of
-written h m l l₁ l₂ l₃ n a b e room en p q r =
-    let fits : length (encode h m) ≤ length l = rw (length-encode h m) room in
-    let k = placed h m l l₁ l₂ l₃ n a b e fits en p q r in
-    (rw (le-ltb _ _ fits) (ap Wrote k.0), k.1)

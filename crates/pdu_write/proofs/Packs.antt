@@ -1,8 +1,11 @@
 -- The two packed bytes of a header: the code's shifts, masks and ors are the definition's sums, since each part lies below the last.
 -- Assumes nothing.
-use mathlib.Core.Path.{◌≡◌}
+use mathlib.Core.Path.{◌≡◌, refl}
+use mathlib.Core.Bool.{Bool, true, false}
 use Prim.Native.Nat.{ℕ, ◌+◌, ◌*◌, ◌%◌, ◌^◌, ◌<◌}
 use native.Mathlib.Omega.{arith}
+use mir.Val.{bool_byte}
+use Rattle.basis.specs.Pick.{flag}
 use lib.Bits.{bit_and, bit_or, and_mask, or_shifted}
 
 -- bits set below all those that are set
@@ -27,3 +30,14 @@ pub packed3 : (i s : ℕ) → bit_or (bit_and i 7 * 2 ^ 4 % 256) (bit_and s 7) �
 packed3 i s =
     let e : i % 8 * 16 % 256 ≡ i % 8 * 16 = omega arith in
     rw (and_mask i 3, and_mask s 3, e) (or-below (i % 8 * 16) (s % 8) (i % 8) 4 (omega arith) (omega arith))
+
+-- a flag's bit
+pub flag_bit : (b : Bool) → bool_byte b ≡ flag b
+flag_bit true = refl
+flag_bit false = refl
+
+pub flag_small : (b : Bool) → bool_byte b < 2
+flag_small true = omega arith
+flag_small false = omega arith
+
+pub ruleset packing = (packed0, flag_bit, flag_small)

@@ -1,37 +1,33 @@
 // ACK of Finished: condition, status.
-ghost use Rattle.std.specs.Prelude.{◌≡◌, ◌+◌, ◌≤◌, length};
-ghost use Rattle.basis.specs.Laid.{laid, in_front};
-ghost use Rattle.rules_pdu.specs.Fields.{sizes};
-ghost use Rattle.rules_pdu.specs.Layout.{ack_finished, layout, body_bytes, encode, written_of};
+ghost use Rattle.rules_pdu.specs.Layout.{ack_finished};
 
-use crate::header::{crc_length, head_length, put_crc, put_head};
+use crate::body::Body;
 use basis::fields::put_be;
-use types::{Head, Written};
+use pdu_read::directive::{Directive, OF_FINISHED};
 
-const ACK: u64 = 6;
-// Finished's code, 5, and its subtype, 1.
-const OF_FINISHED: u64 = 0x51;
-
-fn put_ack_finished(out: &mut [u8], at: usize, large: bool, condition: u8, status: u8) -> usize
-    requires { at + sizes (layout large (ack_finished condition status)) ≤ length out.old }
-    ensures { (result ≡ at + sizes (layout large (ack_finished condition status))) × (out.new ≡ laid out.old at (body_bytes large (ack_finished condition status))) }
-{
-    let flags = (condition as u64) * 16 + (status as u64);
-    let p0 = put_be(out, at, 1, ACK);
-    let p1 = put_be(out, p0, 1, OF_FINISHED);
-    put_be(out, p1, 1, flags)
+// Stays: numbers, as the definition `ack_finished` takes them.
+#[derive(Clone, Copy)]
+pub struct AckFinished {
+    pub condition: u8,
+    pub status: u8,
 }
 
-pub fn write_ack_finished(out: &mut [u8], h: Head, condition: u8, status: u8) -> Written
-    ensures value { result ≡ written_of (encode h (ack_finished condition status)) out.old }
-    ensures out_after { out.new ≡ in_front (encode h (ack_finished condition status)) out.old }
-{
-    // The data field: the body is 3 bytes.
-    let n = 3 + crc_length(h.crc);
-    if out.len() < head_length(h) + n {
-        return Written::Short;
+#[tactic(auto, using(crate::proofs::Frame::laying), unfolding(rules_pdu::specs::Layout::body_bytes))]
+impl Body for AckFinished {
+    ghost said = { λ b. ack_finished b.condition b.status };
+
+    fn is_file_data(self) -> bool {
+        false
     }
-    let a = put_head(out, h, false, n);
-    let b = put_ack_finished(out, a, h.large, condition, status);
-    Written::Wrote(put_crc(out, b, h.crc))
+
+    fn length(self, _large: bool) -> Option<usize> {
+        Some(3)
+    }
+
+    fn put(self, out: &mut [u8], at: usize, _large: bool) -> usize {
+        let flags = (self.condition as u64) * 16 + (self.status as u64);
+        let p0 = put_be(out, at, 1, Directive::Ack as u64);
+        let p1 = put_be(out, p0, 1, OF_FINISHED as u64);
+        put_be(out, p1, 1, flags)
+    }
 }

@@ -5,59 +5,48 @@ ghost use Rattle.basis.specs.Laid.{laid};
 ghost use Rattle.rules_pdu.specs.Numbers.{H as headLength, C};
 ghost use Rattle.rules_pdu.specs.Layout.{byte0, byte3, head_bytes, trailer};
 
-use basis::fields::{bit_of, put_be};
+use basis::fields::put_be;
 use checksum::crc16;
 use types::Head;
 
-// ---- lengths
-
 // H: the header's own length.
+// Stays: the reader has one of its own (pdu_read), which takes bytes and no header.
 pub fn head_length(h: Head) -> usize
     ensures { (result ≡ headLength h) × (result < 1024) }
 {
     4 + 2 * (h.source.0 as usize) + (h.number.0 as usize)
 }
 
-// C: the length of the CRC.
-pub fn crc_length(crc: bool) -> usize
-    ensures { (result ≡ C crc) × (result ≤ 2) }
-{
-    2 * (bit_of(crc) as usize)
-}
-
 // ---- the two packed bytes
 
 // Byte 0 from the top: version 001, type, direction, mode, CRC flag, large flag.
+#[tactic(auto, using(crate::proofs::Packs::packing))]
+// Stays: shifts and masks, here and in `pack3`, as document 01 shows these bytes.
 fn pack0(filedata: bool, tosender: bool, unacknowledged: bool, crc: bool, large: bool) -> u8
     ensures { result ≡ byte0 filedata tosender unacknowledged crc large }
 {
-    let t = bit_of(filedata);
-    let d = bit_of(tosender);
-    let m = bit_of(unacknowledged);
-    let c = bit_of(crc);
-    let l = bit_of(large);
+    let t = u8::from(filedata);
+    let d = u8::from(tosender);
+    let m = u8::from(unacknowledged);
+    let c = u8::from(crc);
+    let l = u8::from(large);
     (1 << 5) | (t << 4) | (d << 3) | (m << 2) | (c << 1) | l
 }
 
-// A width as byte 3 has it, one less; 0 for a width of 0.
-fn less_one(w: u8) -> u8
-    ensures { result ≡ w - 1 }
-{
-    if w == 0 { 0 } else { w - 1 }
-}
-
-// Byte 3: segmentation control 0, id width - 1, segment metadata flag 0, sequence width - 1.
+// Byte 3: segmentation control 0, id width - 1, segment metadata flag 0, sequence width - 1; 0 for a width of 0.
+#[tactic(auto, using(crate::proofs::Packs::packed3))]
 fn pack3(idwidth: u8, seqwidth: u8) -> u8
     ensures { result ≡ byte3 idwidth seqwidth }
 {
-    let i = less_one(idwidth);
-    let s = less_one(seqwidth);
+    let i = idwidth.saturating_sub(1);
+    let s = seqwidth.saturating_sub(1);
     ((i & 7) << 4) | (s & 7)
 }
 
 // ---- the header, and the CRC
 
 // The header towards the receiver in front of out; n is the length of the data field. Both ids take the source id's width.
+#[tactic(auto, using(crate::proofs::Frame::laying), unfolding(rules_pdu::specs::Layout::head_bytes))]
 pub fn put_head(out: &mut [u8], h: Head, filedata: bool, n: usize) -> usize
     requires { headLength h ≤ length out.old }
     ensures { (result ≡ headLength h) × (out.new ≡ laid out.old 0 (head_bytes h filedata false n)) }
@@ -75,6 +64,7 @@ pub fn put_head(out: &mut [u8], h: Head, filedata: bool, n: usize) -> usize
 }
 
 // Where the flag asks for it, the CRC over the first n bytes of out, behind them.
+#[tactic(auto, using(crate::proofs::Frame::closing), unfolding(rules_pdu::specs::Layout::trailer))]
 pub fn put_crc(out: &mut [u8], n: usize, crc: bool) -> usize
     requires { n + C crc ≤ length out.old }
     ensures { (result ≡ n + C crc) × (out.new ≡ laid out.old n (trailer crc (take n out.old))) }
