@@ -1,3 +1,2 @@
-pub mod Rows
 pub mod Requests
 pub mod Order

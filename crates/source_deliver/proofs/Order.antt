@@ -1,5 +1,6 @@
 -- The way that the code takes comes to what document 01's list of refusals and table of steps say.
 -- Assumes nothing.
+use Rattle.std.specs.Prelude.{Err, None, Ok, Result, Some, ⊤}
 use mathlib.Core.Path.{◌≡◌, refl}
 use mathlib.Core.Bool.{Bool, true, false}
 use mathlib.Core.List.{List, []}
@@ -14,33 +15,30 @@ use Rattle.rules.specs.States.{step_no, with_queue}
 use Rattle.rules.specs.Queues.{any_invalid, owing, free, push_all}
 use Rattle.rules.specs.Deliver.{said_in, requests_in, asked, verdict_of, is_refuse, unexpected, by_verdict, deliver_answer, deliver_state, deliver_length, reporting, deliver_outcome}
 use Rattle.types.specs.declared.SegmentRequest.{SegmentRequest}
-use Rattle.types.specs.declared.Framed.TheVariants.{Malformed as NoFrame, Whole}
-use Rattle.types.specs.declared.Body.{Body}
-use Rattle.types.specs.declared.Body.TheVariants.{Malformed as NoPdu, CantProcess, Means}
+use Rattle.types.specs.declared.ReadError.{ReadError}
+use Rattle.types.specs.declared.ReadError.TheVariants.{Malformed as NoPdu, CantProcess}
 use Rattle.types.specs.declared.Meaning.{Meaning}
 use Rattle.types.specs.declared.Meaning.TheVariants.{Finished, AckOfEof, Nak, KeepAlive}
 use Rattle.types.specs.declared.Verdict.TheVariants.{Enqueue, Move, Refuse, NoEffect}
 use Rattle.types.specs.declared.State.{State}
 use Rattle.types.specs.declared.Refusal.{Refusal}
 use Rattle.types.specs.declared.Refusal.TheVariants.{UnexpectedPdu, OtherTransaction, InvalidNakPdu, RetransmitFull}
-use Rattle.types.specs.declared.Answer.{Answer}
-use Rattle.types.specs.declared.Answer.TheVariants.{Accepted, Refused}
 use Rattle.rules.proofs.Table.{verdict_nak, verdict_ack, verdict_finished, verdict_keep}
 use Rattle.source_deliver.specs.Asked.{is_other, takes_nak}
 use Rattle.source_deliver.specs.Ways.{nak_done, verdict_done, heard_done, body_delivered, frame_delivered}
 
 module _ (s : State) where
   -- a refusal first, then the rest
-  by-line : (t : State) (b : Bool) (r : Refusal) (x : Answer) → by_answer s t (pick b (Refused r) x) ≡ pick b (refused s r) (by_answer s t x)
+  by-line : (t : State) (b : Bool) (r : Refusal) (x : Result ⊤ Refusal) → by_answer s t (pick b (Err r) x) ≡ pick b (refused s r) (by_answer s t x)
   by-line t true r x = refl
   by-line t false r x = refl
 
   -- the last three lines, over the test of the first and the requests
-  abbrev behind : Bool → List SegmentRequest → Answer
+  abbrev behind : Bool → List SegmentRequest → Result ⊤ Refusal
   behind u rs =
-      pick u (Refused UnexpectedPdu)
-      (pick (any_invalid s.file.progress rs) (Refused InvalidNakPdu)
-      (pick (ltb (free s.queue) (owing rs)) (Refused RetransmitFull) Accepted))
+      pick u (Err UnexpectedPdu)
+      (pick (any_invalid s.file.progress rs) (Err InvalidNakPdu)
+      (pick (ltb (free s.queue) (owing rs)) (Err RetransmitFull) (Ok tt)))
 
   nak_way : (rs : List SegmentRequest) → nak_done s rs ≡ by_answer s (with_queue s (push_all s.queue rs)) (behind (s.fixed.head.unacknowledged or s.marks.cancelled) rs)
   unfolding nak_done takes_nak
@@ -52,7 +50,7 @@ module _ (s : State) where
 
       go : (u c a b : Bool)
           → pick (not (not u and not c)) (refused s UnexpectedPdu) (pick a (refused s InvalidNakPdu) (pick b (refused s RetransmitFull) (accepted t)))
-          ≡ by_answer s t (pick (u or c) (Refused UnexpectedPdu) (pick a (Refused InvalidNakPdu) (pick b (Refused RetransmitFull) Accepted)))
+          ≡ by_answer s t (pick (u or c) (Err UnexpectedPdu) (pick a (Err InvalidNakPdu) (pick b (Err RetransmitFull) (Ok tt))))
       go true c a b = refl
       go false true a b = refl
       go false false true b = refl
@@ -60,7 +58,7 @@ module _ (s : State) where
       go false false false false = refl
 
   -- what is no NAK asks for nothing
-  none-asked : behind false [] ≡ Accepted
+  none-asked : behind false [] ≡ Ok tt
   unfolding any_invalid owing
   none-asked = rw (le-ltb (free s.queue) 0 (omega arith))
 
@@ -97,18 +95,18 @@ module _ (s : State) where
       go false false false = nak_way rs
   verdict_way bytes (KeepAlive p) = rw (verdict_keep s.step p) (rw none-asked)
 
-  body_way : (bytes : List ℕ) (v : Body)
+  body_way : (bytes : List ℕ) (v : Result Meaning ReadError)
       → body_delivered s bytes (frame_in bytes) v ≡ reporting (deliver_length bytes v) (by_answer s (deliver_state s bytes v) (deliver_answer s bytes v))
   unfolding deliver_answer deliver_state deliver_length heard_done is_other frame_in
-  body_way bytes NoPdu = refl
-  body_way bytes CantProcess = refl
-  body_way bytes (Means m) = rw (verdict_way bytes m) (rw (by-line _ (is_other s (frame_in bytes)) OtherTransaction _))
+  body_way bytes (Err NoPdu) = refl
+  body_way bytes (Err CantProcess) = refl
+  body_way bytes (Ok m) = rw (verdict_way bytes m) (rw (by-line _ (is_other s (frame_in bytes)) OtherTransaction _))
 
   pub in_order : (bytes : List ℕ) → frame_delivered s bytes (framed_in bytes) ≡ deliver_outcome s bytes
   unfolding deliver_outcome said_in framed_in frame_in body_in
   in_order bytes = go (well_framed bytes)
     where
-      go : (b : Bool) → let v = pick b (body_of (frame_in bytes) (body_in bytes)) NoPdu in
-          frame_delivered s bytes (pick b (Whole (frame_in bytes)) NoFrame) ≡ reporting (deliver_length bytes v) (by_answer s (deliver_state s bytes v) (deliver_answer s bytes v))
+      go : (b : Bool) → let v = pick b (body_of (frame_in bytes) (body_in bytes)) (Err NoPdu) in
+          frame_delivered s bytes (pick b (Some (frame_in bytes)) None) ≡ reporting (deliver_length bytes v) (by_answer s (deliver_state s bytes v) (deliver_answer s bytes v))
       go true = body_way bytes (body_of (frame_in bytes) (body_in bytes))
-      go false = body_way bytes NoPdu
+      go false = body_way bytes (Err NoPdu)

@@ -1,5 +1,6 @@
 -- What a PDU asks for, as requests from a place that stops at the end of the delivered bytes; and what it moves.
 -- Assumes nothing.
+use Rattle.std.specs.Prelude.{Ok}
 use mathlib.Core.Path.{◌≡◌, refl, sym}
 use mathlib.Core.List.{List}
 use Prim.Native.Nat.{ℕ, ◌+◌, min}
@@ -12,7 +13,7 @@ use Rattle.types.specs.declared.Frame.{Frame}
 use Rattle.types.specs.declared.State.{State}
 use Rattle.types.specs.declared.Meaning.{Meaning}
 use Rattle.types.specs.declared.Meaning.TheVariants.{Finished, AckOfEof, Nak, KeepAlive}
-use Rattle.source_queue.proofs.Requests.{at-end}
+use Rattle.pdu_read.proofs.Requests.{at-end}
 use Rattle.source_deliver.specs.Asked.{asked_count}
 use Rattle.source_deliver.specs.Effects.{done_by, move_of}
 
@@ -31,7 +32,7 @@ asks bytes f (Nak n) = refl
 asks bytes f (KeepAlive p) = refl
 
 -- what the table's "move" comes to
-pub moves : (s : State) (bytes : List ℕ) (m : Meaning) → done_by s bytes (move_of m) ≡ accepted (moved_by s m)
+pub moves : (s : State) (bytes : List ℕ) (m : Meaning) → done_by s bytes (Ok (move_of m)) ≡ accepted (moved_by s m)
 moves s bytes (Finished p) = refl
 moves s bytes AckOfEof = refl
 moves s bytes (Nak n) = refl

@@ -8,14 +8,12 @@ ghost use Rattle.types.specs.declared.TransactionStep.TheVariants.{WaitingForFin
 ghost use Rattle.source_deliver.specs.Effects.{answer_by, moved_by as movedIs, queue_by, delivered_by, moves_queue};
 
 use source_queue::nak::push_all;
-use source_state::to_step;
-use types::{
-    Answer, Delivered, FinishedParams, Queue, Refusal, SegmentRequest, State, TransactionStep,
-};
+use source_state::{empty_queue, to_step};
+use types::{Delivery, FinishedParams, Queue, Refusal, State, TransactionStep};
 
+// Of one that is not refused.
 #[derive(Clone, Copy)]
 pub enum Effect {
-    Refuse(Refusal),
     NoEffect,
     // an ACK of EOF
     WaitForFinished,
@@ -28,96 +26,62 @@ pub enum Effect {
 // What a delivery comes to, and how many of its bytes are the PDU's; of a Malformed one, none.
 #[derive(Clone, Copy)]
 pub struct Arrival {
-    pub effect: Effect,
+    pub effect: Result<Effect, Refusal>,
     pub length: usize,
 }
 
-pub fn answer_by(e: Effect) -> Answer
+pub fn answer_by(e: Result<Effect, Refusal>) -> Result<(), Refusal>
     ensures { result ≡ answer_by e }
 {
-    match e {
-        Effect::Refuse(k) => Answer::Refused(k),
-        Effect::NoEffect => Answer::Accepted,
-        Effect::WaitForFinished => Answer::Accepted,
-        Effect::Close(_) => Answer::Accepted,
-        Effect::Enqueue {
-            large: _,
-            at: _,
-            n: _,
-        } => Answer::Accepted,
-    }
+    e?;
+    Ok(())
 }
 
 // A Finished PDU: closing; an owed EOF is dropped, and so is the queue.
-fn handle_finished_pdu(s: State, p: FinishedParams) -> State
-    ensures { result ≡ finished_of s p }
+fn handle_finished_pdu(s: &mut State, p: FinishedParams)
+    ensures { s.new ≡ finished_of s.old p }
 {
-    let queue = source_state::empty_queue();
-    let mut marks = s.marks;
-    marks.owed = false;
-    marks.finished = p;
-    let mut t = s;
-    t.queue = queue;
-    t.marks = marks;
-    to_step(t, TransactionStep::Closing)
+    s.queue = empty_queue();
+    s.marks.owed = false;
+    s.marks.finished = p;
+    to_step(s, TransactionStep::Closing);
 }
 
 // The state after it, but for a NAK's requests.
-pub fn moved_by(s: State, e: Effect) -> State
-    ensures { result ≡ movedIs s e }
+pub fn moved_by(s: &mut State, e: Result<Effect, Refusal>)
+    ensures { s.new ≡ movedIs s.old e }
 {
     match e {
-        Effect::Refuse(_) => s,
-        Effect::NoEffect => s,
-        Effect::WaitForFinished => to_step(s, TransactionStep::WaitingForFinished),
-        Effect::Close(p) => handle_finished_pdu(s, p),
-        Effect::Enqueue {
-            large: _,
-            at: _,
-            n: _,
-        } => s,
+        Ok(Effect::WaitForFinished) => to_step(s, TransactionStep::WaitingForFinished),
+        Ok(Effect::Close(p)) => handle_finished_pdu(s, p),
+        _ => {}
     }
 }
 
-pub fn queue_by(q: Queue, bytes: &[u8], e: Effect) -> Queue
+pub fn queue_by(q: Queue, bytes: &[u8], e: Result<Effect, Refusal>) -> Queue
     ensures { result ≡ queue_by q bytes.now e }
 {
     match e {
-        Effect::Refuse(_) => q,
-        Effect::NoEffect => q,
-        Effect::WaitForFinished => q,
-        Effect::Close(_) => source_state::empty_queue(),
-        Effect::Enqueue { large, at, n } => push_all(q, bytes, large, at, n),
+        Ok(Effect::Close(_)) => empty_queue(),
+        Ok(Effect::Enqueue { large, at, n }) => push_all(q, bytes, large, at, n),
+        _ => q,
     }
 }
 
-pub fn moves_queue(e: Effect) -> bool
+pub fn moves_queue(e: Result<Effect, Refusal>) -> bool
     ensures { result ≡ moves_queue e }
 {
-    match e {
-        Effect::Refuse(_) => false,
-        Effect::NoEffect => false,
-        Effect::WaitForFinished => false,
-        Effect::Close(_) => true,
-        Effect::Enqueue {
-            large: _,
-            at: _,
-            n: _,
-        } => true,
-    }
+    matches!(e, Ok(Effect::Close(_) | Effect::Enqueue { .. }))
 }
 
-pub(crate) fn delivered_by(s: State, bytes: &[u8], a: Arrival) -> Delivered
-    ensures { result ≡ delivered_by s bytes.now a }
+pub(crate) fn delivered_by(s: &mut State, bytes: &[u8], a: Arrival) -> Delivery
+    ensures { (record { answer = result.answer; length = result.length; state = s.new }) ≡ delivered_by s.old bytes.now a }
 {
-    let e = a.effect;
-    let answer = answer_by(e);
-    let queue = queue_by(s.queue, bytes, e);
-    let mut t = moved_by(s, e);
-    t.queue = queue;
-    Delivered {
-        answer: answer,
+    let queue = queue_by(s.queue, bytes, a.effect);
+    moved_by(s, a.effect);
+    s.queue = queue;
+    Delivery {
+        answer: answer_by(a.effect),
         length: a.length,
-        state: t,
     }
 }

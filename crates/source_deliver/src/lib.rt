@@ -19,7 +19,7 @@ use crate::nak::handle_nak_pdu;
 use crate::table::verdict_of;
 use pdu_read::directive::read_body;
 use pdu_read::header::read_header;
-use types::{Body, Delivered, Frame, Framed, Head, Meaning, Refusal, State, Verdict};
+use types::{Delivery, Frame, Head, Meaning, ReadError, Refusal, State, Verdict};
 
 // ---- the table at work
 
@@ -28,10 +28,8 @@ fn asked_count(m: Meaning) -> usize
     ensures { result ≡ asked_count m }
 {
     match m {
-        Meaning::Finished(_) => 0,
-        Meaning::AckOfEof => 0,
         Meaning::Nak(n) => n,
-        Meaning::KeepAlive(_) => 0,
+        _ => 0,
     }
 }
 
@@ -42,61 +40,48 @@ fn move_of(m: Meaning) -> Effect
     match m {
         Meaning::Finished(p) => Effect::Close(p),
         Meaning::AckOfEof => Effect::WaitForFinished,
-        Meaning::Nak(_) => Effect::NoEffect,
-        Meaning::KeepAlive(_) => Effect::NoEffect,
+        Meaning::Nak(_) | Meaning::KeepAlive(_) => Effect::NoEffect,
     }
 }
 
-fn by_verdict(s: State, bytes: &[u8], f: Frame, m: Meaning, v: Verdict) -> Effect
-    ensures { done_by s bytes.now result ≡ verdict_done s bytes.now f m v }
+// Stays: state, bytes and frame go on together to the four functions below; a struct of them would be taken apart in each contract, which says what each does.
+fn by_verdict(s: &State, bytes: &[u8], f: Frame, m: Meaning, v: Verdict) -> Result<Effect, Refusal>
+    ensures { done_by s.now bytes.now result ≡ verdict_done s.now bytes.now f m v }
 {
     match v {
         Verdict::Enqueue => handle_nak_pdu(s, bytes, f, asked_count(m)),
-        Verdict::Move => move_of(m),
-        Verdict::Refuse => Effect::Refuse(Refusal::UnexpectedPdu),
-        Verdict::NoEffect => Effect::NoEffect,
+        Verdict::Move => Ok(move_of(m)),
+        Verdict::Refuse => Err(Refusal::UnexpectedPdu),
+        Verdict::NoEffect => Ok(Effect::NoEffect),
     }
 }
 
 // ---- whose PDU it is
 
 // Compared by value, whatever the widths.
+#[tactic(auto, unfolding(rules::specs::Deliver::same_transaction))]
 fn same_transaction(a: Head, b: Head) -> bool
     ensures { result ≡ same_transaction a b }
 {
-    if a.source.1 != b.source.1 {
-        return false;
-    }
-    if a.number.1 != b.number.1 {
-        return false;
-    }
-    a.destination.1 == b.destination.1
+    a.source.1 == b.source.1 && a.number.1 == b.number.1 && a.destination.1 == b.destination.1
 }
 
 // Idle has no transaction to compare with.
-fn is_other(s: State, f: Frame) -> bool
-    ensures { result ≡ is_other s f }
+#[tactic(auto, unfolding(crate::specs::Asked::is_other))]
+fn is_other(s: &State, f: Frame) -> bool
+    ensures { result ≡ is_other s.now f }
 {
-    let step = s.step;
-    if source_state::is_idle(step) {
-        return false;
-    }
-    if same_transaction(s.fixed.head, f.head) {
-        return false;
-    }
-    true
+    !source_state::is_idle(s.step) && !same_transaction(s.fixed.head, f.head)
 }
 
 // 23, then what the table says: 22 among it.
-fn heard(s: State, bytes: &[u8], f: Frame, m: Meaning) -> Effect
-    ensures { done_by s bytes.now result ≡ heard_done s bytes.now f m }
+fn heard(s: &State, bytes: &[u8], f: Frame, m: Meaning) -> Result<Effect, Refusal>
+    ensures { done_by s.now bytes.now result ≡ heard_done s.now bytes.now f m }
 {
     if is_other(s, f) {
-        return Effect::Refuse(Refusal::OtherTransaction);
+        return Err(Refusal::OtherTransaction);
     }
-    let step = s.step;
-    let v = verdict_of(step, m);
-    by_verdict(s, bytes, f, m, v)
+    by_verdict(s, bytes, f, m, verdict_of(s.step, m))
 }
 
 // ---- what the bytes say
@@ -106,46 +91,39 @@ fn malformed() -> Arrival
     ensures { result ≡ no_pdu }
 {
     Arrival {
-        effect: Effect::Refuse(Refusal::Malformed),
+        effect: Err(Refusal::Malformed),
         length: 0,
     }
 }
 
-fn by_body(s: State, bytes: &[u8], f: Frame, b: Body) -> Arrival
-    ensures { delivered_by s bytes.now result ≡ body_delivered s bytes.now f b }
+fn by_body(s: &State, bytes: &[u8], f: Frame, b: Result<Meaning, ReadError>) -> Arrival
+    ensures { delivered_by s.now bytes.now result ≡ body_delivered s.now bytes.now f b }
 {
     match b {
-        Body::Malformed => malformed(),
-        Body::CantProcess => Arrival {
-            effect: Effect::Refuse(Refusal::CantProcessPacketType),
+        Err(ReadError::Malformed) => malformed(),
+        Err(ReadError::CantProcess) => Arrival {
+            effect: Err(Refusal::CantProcessPacketType),
             length: f.length,
         },
-        Body::Means(m) => {
-            let e = heard(s, bytes, f, m);
-            Arrival {
-                effect: e,
-                length: f.length,
-            }
-        }
+        Ok(m) => Arrival {
+            effect: heard(s, bytes, f, m),
+            length: f.length,
+        },
     }
 }
 
 // What a delivery comes to.
-pub fn arrival_of(s: State, bytes: &[u8]) -> Arrival
-    ensures { delivered_by s bytes.now result ≡ deliver_outcome s bytes.now }
+pub fn arrival_of(s: &State, bytes: &[u8]) -> Arrival
+    ensures { delivered_by s.now bytes.now result ≡ deliver_outcome s.now bytes.now }
 {
-    let framed = read_header(bytes);
-    match framed {
-        Framed::Malformed => malformed(),
-        Framed::Whole(f) => {
-            let b = read_body(bytes, f);
-            by_body(s, bytes, f, b)
-        }
+    match read_header(bytes) {
+        None => malformed(),
+        Some(f) => by_body(s, bytes, f, read_body(bytes, f)),
     }
 }
 
-pub fn deliver(s: State, bytes: &[u8]) -> Delivered
-    ensures { DeliverMeets s bytes.now result }
+pub fn deliver(s: &mut State, bytes: &[u8]) -> Delivery
+    ensures { DeliverMeets s.old bytes.now (record { answer = result.answer; length = result.length; state = s.new }) }
 {
     let a = arrival_of(s, bytes);
     delivered_by(s, bytes, a)

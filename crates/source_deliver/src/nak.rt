@@ -13,37 +13,39 @@ use source_queue::nak::{first_pair, judge};
 use types::{Frame, Refusal, State};
 
 // Not in unacknowledged mode, not after cancellation.
-fn takes_nak(s: State) -> bool
-    ensures { result ≡ takes_nak s }
+#[tactic(auto, unfolding(crate::specs::Asked::takes_nak))]
+fn takes_nak(s: &State) -> bool
+    ensures { result ≡ takes_nak s.now }
 {
-    if s.fixed.head.unacknowledged {
-        return false;
-    }
-    if s.marks.cancelled {
-        return false;
-    }
-    true
+    !s.fixed.head.unacknowledged && !s.marks.cancelled
 }
 
 // n requests, from a place on.
-fn handle_retransmission(s: State, bytes: &[u8], large: bool, at: usize, n: usize) -> Effect
-    ensures { done_by s bytes.now result ≡ nak_done s (requests_from n large bytes.now at) }
+#[tactic(auto, unfolding(crate::specs::Ways::nak_done))]
+fn handle_retransmission(
+    s: &State,
+    bytes: &[u8],
+    large: bool,
+    at: usize,
+    n: usize,
+) -> Result<Effect, Refusal>
+    ensures { done_by s.now bytes.now result ≡ nak_done s.now (requests_from n large bytes.now at) }
 {
     if !takes_nak(s) {
-        return Effect::Refuse(Refusal::UnexpectedPdu);
+        return Err(Refusal::UnexpectedPdu);
     }
     let j = judge(bytes, large, at, n, s.file.progress);
     if j.invalid {
-        return Effect::Refuse(Refusal::InvalidNakPdu);
+        return Err(Refusal::InvalidNakPdu);
     }
     if j.owing > free(s.queue) {
-        return Effect::Refuse(Refusal::RetransmitFull);
+        return Err(Refusal::RetransmitFull);
     }
-    Effect::Enqueue { large, at, n }
+    Ok(Effect::Enqueue { large, at, n })
 }
 
-pub(crate) fn handle_nak_pdu(s: State, bytes: &[u8], f: Frame, n: usize) -> Effect
-    ensures { done_by s bytes.now result ≡ nak_done s (requests_in bytes.now f n) }
+pub(crate) fn handle_nak_pdu(s: &State, bytes: &[u8], f: Frame, n: usize) -> Result<Effect, Refusal>
+    ensures { done_by s.now bytes.now result ≡ nak_done s.now (requests_in bytes.now f n) }
 {
     let at = first_pair(bytes.len(), f.head.large, f.start);
     handle_retransmission(s, bytes, f.head.large, at, n)

@@ -1,5 +1,6 @@
 -- The bytes of no PDU, and a part of the file that may lie past its end.
 -- Assumes nothing.
+use Rattle.std.specs.Prelude.{Some}
 use mathlib.Core.Path.{◌≡◌, refl, ap, ◌∙◌}
 use mathlib.Core.List.{List, [], ◌∷◌}
 use Prim.Native.Nat.{ℕ, zero, suc, ◌+◌, ◌-◌, min}
@@ -11,10 +12,9 @@ use Rattle.basis.specs.Bytes.{part}
 use Rattle.basis.specs.Laid.{in_front}
 use Rattle.basis.proofs.Bytes.{part-min}
 use Rattle.rules_pdu.specs.Layout.{written_of}
-use Rattle.types.specs.declared.Written.TheVariants.{Wrote}
 
 -- no PDU: nothing is written
-pub none_written : (out : List ℕ) → Wrote 0 ≡ written_of [] out
+pub none_written : (out : List ℕ) → Some 0 ≡ written_of [] out
 unfolding written_of
 none_written out = rw (le-ltb (length out) 0 (omega arith))
 

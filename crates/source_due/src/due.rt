@@ -3,46 +3,44 @@
 ghost use Rattle.std.specs.Prelude.{◌≡◌, ◌+◌, ◌<◌, leb};
 ghost use Rattle.rules.specs.Step.{action_for, fault_due, ack_expired, check_expired, due_at, eof_owed, due_of};
 
-use basis::fields::wide;
 use types::{Due, State, TransactionStep};
 
 // The configured action of the condition; once cancelled it is abandon.
-fn action_for(s: State, condition: u8) -> u8
+#[tactic(auto, unfolding(rules::specs::Step::action_for))]
+fn action_for(s: &State, condition: u8) -> u8
     requires { condition < 16 }
-    ensures { result ≡ action_for s condition }
+    ensures { result ≡ action_for s.now condition }
 {
     if s.marks.cancelled {
-        return 4;
+        4
+    } else {
+        s.fixed.actions[condition as usize]
     }
-    let i = condition as usize;
-    let fixed = s.fixed;
-    fixed.actions[i]
 }
 
-fn declare_fault(s: State, condition: u8) -> Due
+#[tactic(auto, unfolding(rules::specs::Step::fault_due))]
+fn declare_fault(s: &State, condition: u8) -> Due
     requires { condition < 16 }
-    ensures { result ≡ fault_due s condition }
+    ensures { result ≡ fault_due s.now condition }
 {
-    let action = action_for(s, condition);
-    if action == 1 {
-        return Due::FaultCancel(condition);
+    match action_for(s, condition) {
+        1 => Due::FaultCancel(condition),
+        3 => Due::FaultIgnore(condition),
+        _ => Due::FaultAbandon(condition),
     }
-    if action == 3 {
-        return Due::FaultIgnore(condition);
-    }
-    Due::FaultAbandon(condition)
 }
 
 // Counted in more than a byte: a count of 255 has a successor here.
-fn limit_reached(s: State) -> bool
-    ensures { result ≡ leb s.fixed.limit (s.marks.count + 1) }
+fn limit_reached(s: &State) -> bool
+    ensures { result ≡ leb s.now.fixed.limit (s.now.marks.count + 1) }
 {
-    wide(s.marks.count) + 1 >= wide(s.fixed.limit)
+    u16::from(s.marks.count) + 1 >= u16::from(s.fixed.limit)
 }
 
 // 6: positive ACK limit reached, or the same EOF again.
-fn ack_expired(s: State, expired: bool) -> Due
-    ensures { result ≡ ack_expired s expired }
+#[tactic(auto, unfolding(rules::specs::Step::ack_expired))]
+fn ack_expired(s: &State, expired: bool) -> Due
+    ensures { result ≡ ack_expired s.now expired }
 {
     if !expired {
         return Due::Nothing;
@@ -54,21 +52,20 @@ fn ack_expired(s: State, expired: bool) -> Due
 }
 
 // 7: check limit reached.
-fn check_expired(s: State, expired: bool) -> Due
-    ensures { result ≡ check_expired s expired }
+#[tactic(auto, unfolding(rules::specs::Step::check_expired))]
+fn check_expired(s: &State, expired: bool) -> Due
+    ensures { result ≡ check_expired s.now expired }
 {
-    if !s.fixed.head.unacknowledged {
-        return Due::Nothing;
+    if s.fixed.head.unacknowledged && expired {
+        declare_fault(s, 10)
+    } else {
+        Due::Nothing
     }
-    if !expired {
-        return Due::Nothing;
-    }
-    declare_fault(s, 10)
 }
 
 // 3 to 9, by the step.
-fn due_at(step: TransactionStep, s: State, expired: bool) -> Due
-    ensures { result ≡ due_at step s expired }
+fn due_at(step: TransactionStep, s: &State, expired: bool) -> Due
+    ensures { result ≡ due_at step s.now expired }
 {
     match step {
         TransactionStep::Idle => Due::Nothing,
@@ -82,18 +79,17 @@ fn due_at(step: TransactionStep, s: State, expired: bool) -> Due
 }
 
 // 1: cancelled and EOF owed.
-fn eof_owed(s: State) -> bool
-    ensures { result ≡ eof_owed s }
+#[tactic(auto, unfolding(rules::specs::Step::eof_owed))]
+fn eof_owed(s: &State) -> bool
+    ensures { result ≡ eof_owed s.now }
 {
-    if !s.marks.cancelled {
-        return false;
-    }
-    s.marks.owed
+    s.marks.cancelled && s.marks.owed
 }
 
 // The first that applies.
-pub fn due_of(s: State, expired: bool) -> Due
-    ensures { result ≡ due_of s expired }
+#[tactic(auto, unfolding(rules::specs::Step::due_of))]
+pub fn due_of(s: &State, expired: bool) -> Due
+    ensures { result ≡ due_of s.now expired }
 {
     if eof_owed(s) {
         return Due::CancelEof;
@@ -101,6 +97,5 @@ pub fn due_of(s: State, expired: bool) -> Due
     if s.queue.count > 0 {
         return Due::Repair;
     }
-    let step = s.step;
-    due_at(step, s, expired)
+    due_at(s.step, s, expired)
 }

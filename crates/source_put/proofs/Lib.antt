@@ -1,4 +1,2 @@
-pub mod Widths
 pub mod Scan
-pub mod Room
 pub mod Accepted

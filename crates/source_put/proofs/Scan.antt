@@ -1,40 +1,38 @@
--- Loops that walk a list, by what is left of it.
+-- What `all` and `find` give over a list is what the definitions say.
 -- Assumes nothing.
-use Rattle.std.proofs.Common.{◌≡◌, ℕ, suc, ◌+◌, ◌<◌, ◌≤◌, min, true, false, eqb, List, ◌∷◌, length, get_or, take, drop, refl, ◌∙◌, add-zero, add-suc, suc-add, add-one, arith, drop_of_length-le, length-take, drop-cons, get_or-take}
+use Rattle.std.proofs.Common.{◌≡◌, ℕ, zero, suc, Bool, true, false, eqb, ltb, List, [], ◌∷◌, length, get_or, take, refl, arith, lt-ltb}
+use Prim.Native.Nat.compare.{suc-suc}
+use Rattle.std.specs.Prelude.{◌&&◌, Some, None}
+use Rattle.std.specs.List.{list_all, find}
+use Rattle.std.proofs.lemmas.List.Recursion.{same_from_clauses}
+use Rattle.basis.specs.Pick.{pick, ◌and◌}
 use Rattle.types.specs.declared.RemoteEntityConfig.{RemoteEntityConfig}
-use Rattle.rules.specs.Put.{find_in, known_action, all_known}
+use Rattle.rules.specs.Put.{find_in, no_remote, known_action, all_known}
 
 -- ---- all actions
 
-module _ (l : List ℕ) (i : ℕ) (h : i < length l) where
-  pub all_turn : known_action (get_or l i 0) ≡ true → all_known (drop i l) ≡ all_known (drop (i + 1) l)
-  unfolding all_known
-  all_turn e = rw (add-one i, drop-cons l i 0 h) (simp e)
+and-is : (a b : Bool) → (a && b) ≡ (a and b)
+and-is true b = refl
+and-is false b = refl
 
-  pub all_stop : known_action (get_or l i 0) ≡ false → false ≡ all_known (drop i l)
-  unfolding all_known
-  all_stop e = rw (drop-cons l i 0 h) (simp e)
-
-pub all_end : (l : List ℕ) (i : ℕ) → length l ≤ i → all_known (drop i l) ≡ true
+pub all-known : (l : List ℕ) → list_all known_action l ≡ all_known l
 unfolding all_known
-all_end l i h = rw (drop_of_length-le l h)
+all-known l = same_from_clauses (list_all known_action) all_known (λ (a : ℕ) (b : Bool). known_action a and b) refl (λ a l. and-is (known_action a) (list_all known_action l)) (λ a l. refl) l
 
 -- ---- the first n entries
 
-module _ (l : List RemoteEntityConfig) (n v i : ℕ) (d : RemoteEntityConfig) (h : i < n) (k : i < length l) where
-  here : drop i (take n l) ≡ get_or l i d ∷ drop (suc i) (take n l)
-  here = drop-cons (take n l) i d (omega (arith, length-take n l)) ∙ rw (get_or-take n l i d h) refl
+abbrev pub has : ℕ → RemoteEntityConfig → Bool
+has v e = eqb e.id.1 v
 
-  pub find_turn : eqb (get_or l i d).id.1 v ≡ false → i + find_in (drop i (take n l)) v ≡ i + 1 + find_in (drop (i + 1) (take n l)) v
-  unfolding find_in
-  find_turn e = rw here (simp (e, add-one, add-suc, suc-add))
-
-  pub find_stop : eqb (get_or l i d).id.1 v ≡ true → i ≡ i + find_in (drop i (take n l)) v
-  unfolding find_in
-  find_stop e = rw here (simp (e, add-zero))
-
-pub find_end : (l : List RemoteEntityConfig) (n v i : ℕ) → min n (length l) ≤ i → i ≡ i + find_in (drop i (take n l)) v
+pub found : (n : ℕ) (l : List RemoteEntityConfig) (v : ℕ)
+    → find (has v) (take n l) ≡ pick (ltb (find_in (take n l) v) (length (take n l))) (Some (get_or l (find_in (take n l) v) no_remote)) None
 unfolding find_in
-find_end l n v i h =
-    let e : length (take n l) ≤ i = omega (arith, length-take n l) in
-    rw (drop_of_length-le (take n l) e) (simp add-zero)
+found zero l v = refl
+found (suc n) [] v = refl
+found (suc n) (e ∷ l) v = go (has v e) refl (found n l v)
+  where
+    go : (b : Bool) → has v e ≡ b
+        → find (has v) (take n l) ≡ pick (ltb (find_in (take n l) v) (length (take n l))) (Some (get_or l (find_in (take n l) v) no_remote)) None
+        → find (has v) (take (suc n) (e ∷ l)) ≡ pick (ltb (find_in (take (suc n) (e ∷ l)) v) (length (take (suc n) (e ∷ l)))) (Some (get_or (e ∷ l) (find_in (take (suc n) (e ∷ l)) v) no_remote)) None
+    go true h k = simp (h, lt-ltb 0 (length (take (suc n) (e ∷ l))) (omega arith))
+    go false h k = simp (h, suc-suc) k

@@ -7,85 +7,52 @@ mod names;
 mod numbers;
 mod start;
 
-ghost use Rattle.std.specs.Prelude.{◌≡◌, true};
-ghost use Rattle.rules_pdu.specs.Numbers.{good_width};
+ghost use Rattle.std.specs.Prelude.{◌≡◌};
 ghost use Rattle.rules.specs.Put.{put_answer, put_state};
 ghost use Rattle.rules.specs.Calls.{PutMeets};
+ghost use Rattle.source_put.specs.Entry.{begun};
 
-use crate::config::{entry_of, ids_fit, is_found};
+use crate::config::{entry_found, ids_fit};
 use crate::names::names_of;
-use crate::start::{entry_answer, fixed_of, head_of, started};
-use types::{Answer, Done, LocalEntityConfig, PutRequest, Refusal, State};
+use crate::start::{Asked, started};
+use types::{LocalEntityConfig, PutRequest, Refusal, State};
 
-// Refusals 1 to 3, then those over the entry found.
-fn put_answer(
-    s: State,
-    c: LocalEntityConfig,
-    q: PutRequest,
-    source: &[u8],
-    destination: &[u8],
-    size: u64,
-) -> Answer
-    ensures { result ≡ put_answer s c q source.now destination.now size }
+// The state that an accepted put makes; or its refusal, of 1 to 8 in checking order.
+#[tactic(auto, using(crate::proofs::Accepted::ids_width, crate::proofs::Accepted::by_entry), unfolding(rules::specs::Put::put_state))]
+fn begun(s: &State, q: &Asked<'_>) -> Result<State, Refusal>
+    ensures { result ≡ begun (put_state s.now q.now.local q.now.request q.now.source.now q.now.destination.now q.now.size) (put_answer s.now q.now.local q.now.request q.now.source.now q.now.destination.now q.now.size) }
 {
-    let step = s.step;
-    if !source_state::is_idle(step) {
-        return Answer::Refused(Refusal::AlreadyBusy);
+    if !source_state::is_idle(s.step) {
+        return Err(Refusal::AlreadyBusy);
     }
-    if !ids_fit(c.id, q.destination, s.number) {
-        return Answer::Refused(Refusal::BadIdWidth);
+    if !ids_fit(q.local.id, q.request.destination, s.number) {
+        return Err(Refusal::BadIdWidth);
     }
-    if !is_found(c, q.destination.1) {
-        return Answer::Refused(Refusal::NoRemoteCfgFound);
-    }
-    let e = entry_of(c, q.destination.1);
-    let h = head_of(c, e, q, s.number, size);
-    let actions = c.actions;
-    entry_answer(e, actions, h, source, destination)
-}
-
-// What an accepted put makes.
-fn put_state(
-    s: State,
-    c: LocalEntityConfig,
-    q: PutRequest,
-    source: &[u8],
-    destination: &[u8],
-    size: u64,
-) -> State
-    requires { good_width s.number.0 ≡ true }
-    ensures { result ≡ put_state s c q source.now destination.now size }
-{
-    let e = entry_of(c, q.destination.1);
-    let h = head_of(c, e, q, s.number, size);
-    let f = fixed_of(c, e, q, h, size);
-    let names = names_of(source, destination);
-    started(s.number, f, names)
+    let e = entry_found(q.local, q.request.destination.1).ok_or(Refusal::NoRemoteCfgFound)?;
+    let h = q.head(e, s.number);
+    q.entry_answer(e, h)?;
+    Ok(started(s.number, q.fixed(e, h), names_of(q.source, q.destination)))
 }
 
 // A put of a file of `size` bytes, of which no byte is read.
+#[tactic(auto, unfolding(rules::specs::Put::put_outcome))]
 pub fn put(
-    s: State,
+    s: &mut State,
     c: LocalEntityConfig,
     q: PutRequest,
     source: &[u8],
     destination: &[u8],
     size: u64,
-) -> Done
-    ensures { PutMeets s c q source.now destination.now size result }
+) -> Result<(), Refusal>
+    ensures { PutMeets s.old c q source.now destination.now size (record { answer = result; state = s.new }) }
 {
-    let a = put_answer(s, c, q, source, destination, size);
-    match a {
-        Answer::Accepted => {
-            let t = put_state(s, c, q, source, destination, size);
-            Done {
-                answer: Answer::Accepted,
-                state: t,
-            }
-        }
-        Answer::Refused(r) => Done {
-            answer: Answer::Refused(r),
-            state: s,
-        },
-    }
+    let asked = Asked {
+        local: c,
+        request: q,
+        source,
+        destination,
+        size,
+    };
+    *s = begun(s, &asked)?;
+    Ok(())
 }

@@ -1,49 +1,41 @@
 // "Numbers": widths, the next sequence number, and L.
 // After cfdp-rs 0.3.0, src/source.rs (Apache-2.0); changed, see NOTICE.
 ghost use Rattle.std.specs.Prelude.{◌≡◌, ◌+◌, ◌≤◌, true};
-ghost use Rattle.rules_pdu.specs.Numbers.{good_width, fits, larger, number_after, H as lengthH, F, C, is_large, segment_length};
+ghost use Rattle.rules_pdu.specs.Numbers.{good_width, fits, number_after, H as lengthH, F, C, is_large, segment_length};
 
-use basis::fields::bit_of;
-use std::num::wrapping_add_u64;
 use types::{Head, TransactionSeqNum};
 
 // Width 1, 2, 4 or 8 and a value that fits it.
+// Stays: a width is a number, as C's structs `EntityId` and `TransactionSeqNum` have it.
+#[tactic(auto, unfolding(rules_pdu::specs::Numbers::fits, rules_pdu::specs::Numbers::good_width))]
 pub fn fits(w: u8, v: u64) -> bool
     ensures { result ≡ fits w v }
 {
-    if w == 1 {
-        return v < 256;
+    match w {
+        1 => v < 256,
+        2 => v < 65536,
+        4 => v < 4294967296,
+        _ => w == 8,
     }
-    if w == 2 {
-        return v < 65536;
-    }
-    if w == 4 {
-        return v < 4294967296;
-    }
-    w == 8
-}
-
-pub fn larger(a: u8, b: u8) -> u8
-    ensures { result ≡ larger a b }
-{
-    if a < b { b } else { a }
 }
 
 // After the last number of its width comes 0.
+#[tactic(auto, unfolding(rules_pdu::specs::Numbers::number_after, rules_pdu::specs::Numbers::good_width))]
 pub fn number_after(n: TransactionSeqNum) -> TransactionSeqNum
     requires { good_width n.0 ≡ true }
     ensures { result ≡ number_after n }
 {
-    let w = n.0;
-    let v = wrapping_add_u64(n.1, 1);
-    match w {
-        1 => TransactionSeqNum(1, v % 256),
-        2 => TransactionSeqNum(2, v % 65536),
-        4 => TransactionSeqNum(4, v % 4294967296),
-        _ => TransactionSeqNum(w, v),
-    }
+    let v = n.1.wrapping_add(1);
+    let kept = match n.0 {
+        1 => v % 256,
+        2 => v % 65536,
+        4 => v % 4294967296,
+        _ => v,
+    };
+    TransactionSeqNum(n.0, kept)
 }
 
+#[tactic(auto, unfolding(rules_pdu::specs::Numbers::is_large))]
 pub fn is_large(size: u64) -> bool
     ensures { result ≡ is_large size }
 {
@@ -54,22 +46,15 @@ pub fn is_large(size: u64) -> bool
 pub fn overhead(h: Head) -> u64
     ensures { (result ≡ lengthH h + F h.large + C h.crc) × (result ≤ 1000) }
 {
-    let f = 4 + 4 * (bit_of(h.large) as u64);
-    let c = 2 * (bit_of(h.crc) as u64);
-    4 + 2 * (h.source.0 as u64) + (h.number.0 as u64) + f + c
+    let f = 4 + 4 * u64::from(h.large);
+    let c = 2 * u64::from(h.crc);
+    4 + 2 * u64::from(h.source.0) + u64::from(h.number.0) + f + c
 }
 
 // L
+#[tactic(auto, unfolding(rules_pdu::specs::Numbers::segment_length))]
 pub fn segment_length(maxsegment: u64, maxpacket: u64, h: Head) -> u64
     ensures { result ≡ segment_length maxsegment maxpacket h }
 {
-    let o = overhead(h);
-    if maxpacket < o {
-        return 0;
-    }
-    if maxpacket - o < maxsegment {
-        maxpacket - o
-    } else {
-        maxsegment
-    }
+    maxsegment.min(maxpacket.saturating_sub(overhead(h)))
 }

@@ -1,4 +1,4 @@
-// The handler's state: its groups changed one at a time, the steps told apart, and Idle. An enum field is never stored to: `to_step` makes the state anew.
+// The handler's state: its groups changed one at a time, and Idle.
 // After cfdp-rs 0.3.0, src/source.rs (Apache-2.0); changed, see NOTICE.
 #![tactic(auto)]
 
@@ -14,112 +14,75 @@ use types::{
 pub fn is_idle(step: TransactionStep) -> bool
     ensures { result ≡ is_idle step }
 {
-    match step {
-        TransactionStep::Idle => true,
-        TransactionStep::SendingMetadata => false,
-        TransactionStep::SendingFileData => false,
-        TransactionStep::SendingEof => false,
-        TransactionStep::WaitingForEofAck => false,
-        TransactionStep::WaitingForFinished => false,
-        TransactionStep::Closing => false,
-    }
+    matches!(step, TransactionStep::Idle)
 }
 
-pub fn to_step(s: State, step: TransactionStep) -> State
-    ensures { result ≡ to_step s step }
+pub fn to_step(s: &mut State, step: TransactionStep)
+    ensures { s.new ≡ to_step s.old step }
 {
-    let number = s.number;
-    let fixed = s.fixed;
-    let names = s.names;
-    let file = s.file;
-    let queue = s.queue;
-    let marks = s.marks;
-    State {
-        number: number,
-        step: step,
-        fixed: fixed,
-        names: names,
-        file: file,
-        queue: queue,
-        marks: marks,
-    }
+    s.step = step;
 }
 
 // Progress and the checksum move together: only first-pass bytes do this.
-pub fn onward(s: State, progress: u64, sum: u32) -> State
-    ensures { result ≡ onward s progress sum }
+pub fn onward(s: &mut State, progress: u64, sum: u32)
+    ensures { s.new ≡ onward s.old progress sum }
 {
-    let mut t = s;
-    t.file.progress = progress;
-    t.file.sum = sum;
-    t
+    s.file = FileParams { progress, sum };
 }
 
 // The expiry count.
-pub fn counted(s: State, n: u8) -> State
-    ensures { result ≡ with_marks s (counted s.marks n) }
+pub fn counted(s: &mut State, n: u8)
+    ensures { s.new ≡ with_marks s.old (counted s.old.marks n) }
 {
-    let mut t = s;
-    t.marks.count = n;
-    t
+    s.marks.count = n;
 }
 
 // An EOF left that has to be acknowledged: it is no longer owed, and the count starts.
-pub fn start_positive_ack_procedure(s: State) -> State
-    ensures { result ≡ awaiting s }
+pub fn start_positive_ack_procedure(s: &mut State)
+    ensures { s.new ≡ awaiting s.old }
 {
-    let mut t = s;
-    t.marks.owed = false;
-    t.marks.count = 0;
-    to_step(t, TransactionStep::WaitingForEofAck)
+    s.marks.owed = false;
+    s.marks.count = 0;
+    s.step = TransactionStep::WaitingForEofAck;
 }
 
 pub fn empty_queue() -> Queue
     ensures { result ≡ empty_queue }
 {
-    let places = [SegmentRequest { start: 0, end: 0 }; 64];
     Queue {
-        places: places,
+        places: [SegmentRequest { start: 0, end: 0 }; 64],
         count: 0,
     }
 }
 
 // Cancelled with this condition, by a fault or by the user: the mark set, the queue emptied, the EOF owed.
-pub fn marked(s: State, condition: u8) -> State
-    ensures { result ≡ fault_marked s condition }
+pub fn marked(s: &mut State, condition: u8)
+    ensures { s.new ≡ fault_marked s.old condition }
 {
-    let queue = empty_queue();
-    let mut t = s;
-    t.queue = queue;
-    t.marks.cancelled = true;
-    t.marks.owed = true;
-    t.marks.condition = condition;
-    t
+    s.queue = empty_queue();
+    s.marks.cancelled = true;
+    s.marks.owed = true;
+    s.marks.condition = condition;
 }
 
 fn no_fixed() -> Fixed
     ensures { result ≡ no_fixed }
 {
-    let source = EntityId(0, 0);
-    let number = TransactionSeqNum(0, 0);
-    let destination = EntityId(0, 0);
-    let head = Head {
-        unacknowledged: false,
-        crc: false,
-        large: false,
-        source: source,
-        number: number,
-        destination: destination,
-    };
-    let actions = [0u8; 16];
     Fixed {
-        head: head,
+        head: Head {
+            unacknowledged: false,
+            crc: false,
+            large: false,
+            source: EntityId(0, 0),
+            number: TransactionSeqNum(0, 0),
+            destination: EntityId(0, 0),
+        },
         closure: false,
         checksum: 0,
         segment: 0,
         size: 0,
         limit: 0,
-        actions: actions,
+        actions: [0; 16],
         eofsent: false,
         finished: false,
     }
@@ -128,12 +91,10 @@ fn no_fixed() -> Fixed
 fn no_names() -> Names
     ensures { result ≡ no_names }
 {
-    let source = [0u8; 255];
-    let destination = [0u8; 255];
     Names {
-        source: source,
+        source: [0; 255],
         sourcelen: 0,
-        destination: destination,
+        destination: [0; 255],
         destinationlen: 0,
     }
 }
@@ -150,17 +111,16 @@ pub fn no_file() -> FileParams
 pub fn no_marks() -> Marks
     ensures { result ≡ no_marks }
 {
-    let finished = FinishedParams {
-        condition: 0,
-        delivery: 0,
-        status: 0,
-    };
     Marks {
         cancelled: false,
         owed: false,
         condition: 0,
         count: 0,
-        finished: finished,
+        finished: FinishedParams {
+            condition: 0,
+            delivery: 0,
+            status: 0,
+        },
         anomalies: 0,
     }
 }
@@ -169,18 +129,13 @@ pub fn no_marks() -> Marks
 pub fn idle(number: TransactionSeqNum) -> State
     ensures { result ≡ idle number }
 {
-    let fixed = no_fixed();
-    let names = no_names();
-    let file = no_file();
-    let queue = empty_queue();
-    let marks = no_marks();
     State {
-        number: number,
+        number,
         step: TransactionStep::Idle,
-        fixed: fixed,
-        names: names,
-        file: file,
-        queue: queue,
-        marks: marks,
+        fixed: no_fixed(),
+        names: no_names(),
+        file: no_file(),
+        queue: empty_queue(),
+        marks: no_marks(),
     }
 }

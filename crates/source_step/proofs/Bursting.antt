@@ -1,5 +1,6 @@
 -- A burst made step by step is the definition's: the steps so far and those still made from there on are all of them, and the buffer's bytes so far and those still laid are all bytes.
 -- Assumes nothing.
+use Rattle.std.specs.Prelude.{Err, Ok, Result, ⊤}
 use mathlib.Core.Path.{◌≡◌, refl, sym, ap, ap₂, subst, ◌∙◌}
 use mathlib.Core.Bool.{Bool, true, false}
 use mathlib.Core.List.{List, [], ◌∷◌, ◌++◌, map, map-append, append_assoc, append-nil}
@@ -11,7 +12,9 @@ use borrow.Rule.Slice.PartMut.{mid_of, post_of, put_mid, Post-is}
 use lib.Seq.{take_all, drop-length, set_at, take-append-add, drop-append-add, length-take-le}
 use borrow.Author.Tests.{eq-eqb, ne_eqb, lt-ltb, le-ltb, ltb-false}
 use Rattle.basis.specs.Pick.{pick}
+use Rattle.rules.specs.Answers.{Stepped, Bursted}
 use Rattle.rules.specs.Refusals.{answer_no}
+use Rattle.rules.specs.Calls.{stepped_as, bursted_as}
 use Rattle.rules.specs.Step.{events_of, due_of, after_of, changed, refused_step, bytes_due, performed, step_outcome, step_bytes}
 use Rattle.rules.specs.Burst.{if_made, steps_of, laid_of, burst_answer, allowed, made_of, none_made, in_places, last_of, burst_outcome, burst_bytes}
 use Rattle.rules.proofs.Outcomes.{differ}
@@ -19,13 +22,10 @@ use Rattle.rules.proofs.Singly.{Fits, step_fits, step-length}
 use Rattle.rules.proofs.Exactly.{numbered, step_keeps, none_made_lem, none-laid}
 use Rattle.types.specs.declared.State.{State}
 use Rattle.types.specs.declared.Made.{Made}
-use Rattle.types.specs.declared.Stepped.{Stepped}
-use Rattle.types.specs.declared.Bursted.{Bursted}
 use Rattle.types.specs.declared.Refusal.{Refusal}
 use Rattle.types.specs.declared.Refusal.TheVariants.{FileChanged, OutTooSmall, BurstTooLong}
-use Rattle.types.specs.declared.Answer.{Answer}
-use Rattle.types.specs.declared.Answer.TheVariants.{Accepted, Refused}
-use Rattle.source_step.specs.Bursting.{no_steps, with_step, left_of, begun, further_by, further, more_by, burst_on}
+use Rattle.source_step.specs.Bursting.{Course, course_of, so_far, moved, taken_by, begun_with, none_of, with_step, left_of, begun, further_by, further, more_by, burst_on}
+use Rattle.types.specs.declared.Burst.{Burst}
 use Rattle.source_step.specs.declared.going.Going.{Going}
 
 -- ---- a part of the out buffer that is lent from a place on
@@ -41,7 +41,7 @@ put_rest a xs ys l =
 -- ---- what was made, by the steps
 
 -- these steps from s on, with this answer
-abbrev pub burst_of : Answer → State → List Stepped → Bursted
+abbrev pub burst_of : Result ⊤ Refusal → State → List Stepped → Bursted
 burst_of a s rs = record { answer = a; count = length rs; steps = in_places (map made_of rs); state = last_of s rs }
 
 pub last_more : (s : State) (rs : List Stepped) (r : Stepped) → last_of s (rs ++ r ∷ []) ≡ r.state
@@ -59,7 +59,7 @@ placed ms m l =
     ∙ sym (append_assoc ms (m ∷ []) (replicate (15 - length ms) none_made))
     ∙ ap (λ (k : ℕ). (ms ++ m ∷ []) ++ replicate k none_made) n
 
-pub one_more : (a : Answer) (s : State) (rs : List Stepped) (r : Stepped) → length rs < 16 → with_step (burst_of a s rs) r ≡ burst_of a s (rs ++ r ∷ [])
+pub one_more : (a : Result ⊤ Refusal) (s : State) (rs : List Stepped) (r : Stepped) → length rs < 16 → with_step (burst_of a s rs) r ≡ burst_of a s (rs ++ r ∷ [])
 one_more a s rs r l =
     let n : length rs + 1 ≡ length (rs ++ r ∷ []) = let k = length-append rs (r ∷ []) in omega arith in
     let z = length-map rs made_of in
@@ -69,7 +69,7 @@ one_more a s rs r l =
     λ i. record { answer = a; count = n i; steps = p i; state = sym t i }
 
 -- all that is made from here on
-pub on-is : (n : ℕ) (a : Answer) (s : State) (rs : List Stepped) (file : List ℕ) (room : ℕ) → length rs + n ≤ 16
+pub on-is : (n : ℕ) (a : Result ⊤ Refusal) (s : State) (rs : List Stepped) (file : List ℕ) (room : ℕ) → length rs + n ≤ 16
     → burst_on n (burst_of a s rs) file room ≡ burst_of a s (rs ++ steps_of n (last_of s rs) file false room)
 unfolding burst_on steps_of
 on-is zero a s rs file room l = ap (burst_of a s) (sym (append-nil rs))
@@ -77,29 +77,29 @@ on-is (suc n) a s rs file room l =
     let q = step_outcome (last_of s rs) file false room in
     go q q.answer (eqb q.length 0) (on-is n a s (rs ++ q ∷ []) file (room - q.length) (let k = length-append rs (q ∷ []) in omega arith))
   where
-    go : (q : Stepped) (b : Answer) (quiet : Bool)
+    go : (q : Stepped) (b : Result ⊤ Refusal) (quiet : Bool)
         → burst_on n (burst_of a s (rs ++ q ∷ [])) file (room - q.length) ≡ burst_of a s ((rs ++ q ∷ []) ++ steps_of n (last_of s (rs ++ q ∷ [])) file false (room - q.length))
         → more_by b (burst_of a s rs) (pick quiet (with_step (burst_of a s rs) q) (burst_on n (with_step (burst_of a s rs) q) file (room - q.length)))
         ≡ burst_of a s (rs ++ if_made b (q ∷ pick quiet [] (steps_of n q.state file false (room - q.length))))
-    go q Accepted true h = one_more a s rs q (omega arith)
-    go q Accepted false h =
+    go q (Ok tt) true h = one_more a s rs q (omega arith)
+    go q (Ok tt) false h =
         ap (λ (b : Bursted). burst_on n b file (room - q.length)) (one_more a s rs q (omega arith))
         ∙ h
         ∙ ap (burst_of a s) (append_assoc rs (q ∷ []) (steps_of n (last_of s (rs ++ q ∷ [])) file false (room - q.length))
         ∙ ap (λ (t : State). rs ++ q ∷ steps_of n t file false (room - q.length)) (last_more s rs q))
-    go q (Refused k) quiet h = ap (burst_of a s) (sym (append-nil rs))
+    go q (Err k) quiet h = ap (burst_of a s) (sym (append-nil rs))
 
 -- ---- one turn
 
 -- what a burst makes from here on, and the buffer's bytes then
-abbrev pub made_from : Going → List ℕ → ℕ → Bursted
+abbrev pub made_from : Course → List ℕ → ℕ → Bursted
 made_from g file room = burst_on g.left g.burst file (room - g.at)
 
-abbrev pub laid_from : Going → List ℕ → List ℕ → List ℕ
+abbrev pub laid_from : Course → List ℕ → List ℕ → List ℕ
 laid_from g file out = take g.at out ++ laid_of g.left g.burst.state file false (drop g.at out)
 
 -- where it may stand
-pub record Stands (g : Going) (room : ℕ) : Type 0 where
+pub record Stands (g : Course) (room : ℕ) : Type 0 where
   pub within : g.at ≤ room
   pub places : g.burst.count + g.left ≤ 16
 
@@ -109,23 +109,23 @@ left-more left n e k q = rw q (omega arith)
 left-none : (left k : ℕ) → eqb k 0 ≡ true → left_of left k ≡ 0
 left-none left k q = rw q
 
-made_by : (g : Going) (file : List ℕ) (room n : ℕ) → g.left ≡ suc n → (r : Stepped) (a : Answer) (quiet : Bool) → eqb r.length 0 ≡ quiet
+made_by : (g : Course) (file : List ℕ) (room n : ℕ) → g.left ≡ suc n → (r : Stepped) (a : Result ⊤ Refusal) (quiet : Bool) → eqb r.length 0 ≡ quiet
     → made_from (further_by g r a) file room
     ≡ more_by a g.burst (pick quiet (with_step g.burst r) (burst_on n (with_step g.burst r) file (room - g.at - r.length)))
 unfolding burst_on
-made_by g file room n e r Accepted true q = ap (λ (k : ℕ). burst_on k (with_step g.burst r) file (room - (g.at + r.length))) (left-none g.left r.length q)
-made_by g file room n e r Accepted false q =
+made_by g file room n e r (Ok tt) true q = ap (λ (k : ℕ). burst_on k (with_step g.burst r) file (room - (g.at + r.length))) (left-none g.left r.length q)
+made_by g file room n e r (Ok tt) false q =
     let x : room - (g.at + r.length) ≡ room - g.at - r.length = omega arith in
     ap₂ (λ (k m : ℕ). burst_on k (with_step g.burst r) file m) (left-more g.left n e r.length q) x
-made_by g file room n e r (Refused k) quiet q = refl
+made_by g file room n e r (Err k) quiet q = refl
 
 -- the buffer: `front` is what stands in it, o what the step made of the rest
-laid_by : (g : Going) (file front o : List ℕ) (n : ℕ) → g.left ≡ suc n → length front ≡ g.at → (r : Stepped) (a : Answer) → r.length ≤ length o
+laid_by : (g : Course) (file front o : List ℕ) (n : ℕ) → g.left ≡ suc n → length front ≡ g.at → (r : Stepped) (a : Result ⊤ Refusal) → r.length ≤ length o
     → (¬ (answer_no a ≡ 0) → r.length ≡ 0) → (quiet : Bool) → eqb r.length 0 ≡ quiet
     → laid_from (further_by g r a) file (front ++ o)
     ≡ front ++ (take r.length o ++ pick quiet (drop r.length o) (laid_of n r.state file false (drop r.length o)))
 unfolding laid_of
-laid_by g file front o n e f r Accepted l h quiet q =
+laid_by g file front o n e f r (Ok tt) l h quiet q =
     let t : take (g.at + r.length) (front ++ o) ≡ front ++ take r.length o = ap (λ (k : ℕ). take (k + r.length) (front ++ o)) (sym f) ∙ take-append-add front o r.length in
     let d : drop (g.at + r.length) (front ++ o) ≡ drop r.length o = ap (λ (k : ℕ). drop (k + r.length) (front ++ o)) (sym f) ∙ drop-append-add front o r.length in
     ap₂ (λ (x y : List ℕ). x ++ laid_of (left_of g.left r.length) r.state file false y) t d
@@ -136,13 +136,13 @@ laid_by g file front o n e f r Accepted l h quiet q =
         → laid_of (left_of g.left r.length) r.state file false (drop r.length o) ≡ pick quiet (drop r.length o) (laid_of n r.state file false (drop r.length o))
     rest true q = ap (λ (k : ℕ). laid_of k r.state file false (drop r.length o)) (left-none g.left r.length q)
     rest false q = ap (λ (k : ℕ). laid_of k r.state file false (drop r.length o)) (left-more g.left n e r.length q)
-laid_by g file front o n e f r (Refused k) l h quiet q =
+laid_by g file front o n e f r (Err k) l h quiet q =
     let z = h (numbered k) in
     let y : true ≡ quiet = sym (eq-eqb r.length 0 z) ∙ q in
     take-append-drop g.at (front ++ o) ∙ rw (z, ← y)
 
-stands_by : (g : Going) (room n : ℕ) → g.left ≡ suc n → Stands g room → (r : Stepped) (a : Answer) → r.length ≤ room - g.at → Stands (further_by g r a) room
-stands_by g room n e z r Accepted l =
+stands_by : (g : Course) (room n : ℕ) → g.left ≡ suc n → Stands g room → (r : Stepped) (a : Result ⊤ Refusal) → r.length ≤ room - g.at → Stands (further_by g r a) room
+stands_by g room n e z r (Ok tt) l =
     let w = z.within in
     let p = z.places in
     record { within = omega arith; places = go (eqb r.length 0) refl }
@@ -150,9 +150,9 @@ stands_by g room n e z r Accepted l =
     go : (quiet : Bool) → eqb r.length 0 ≡ quiet → g.burst.count + 1 + left_of g.left r.length ≤ 16
     go true q = let k = left-none g.left r.length q in let p = z.places in omega arith
     go false q = let k = left-more g.left n e r.length q in let p = z.places in omega arith
-stands_by g room n e z r (Refused k) l = let p = z.places in record { within = z.within; places = omega arith }
+stands_by g room n e z r (Err k) l = let p = z.places in record { within = z.within; places = omega arith }
 
-module _ (g : Going) (file out : List ℕ) (n : ℕ) (left_is : g.left ≡ suc n) (z : Stands g (length out)) where
+module _ (g : Course) (file out : List ℕ) (n : ℕ) (left_is : g.left ≡ suc n) (z : Stands g (length out)) where
   abbrev pub stepped : Stepped
   stepped = step_outcome g.burst.state file false (length out - g.at)
 
@@ -217,33 +217,33 @@ step_room s file expired room = go (changed s (length file)) (ltb room (length (
   where
     go : (b c : Bool) → ltb room (length (bytes_due s file expired)) ≡ c
         → (pick b (refused_step s FileChanged) (pick c (refused_step s OutTooSmall)
-        (record { answer = Accepted; length = length (bytes_due s file expired); events = events_of s (due_of s expired); state = after_of s file (due_of s expired) }))).length ≤ room
+        (record { answer = (Ok tt); length = length (bytes_due s file expired); events = events_of s (due_of s expired); state = after_of s file (due_of s expired) }))).length ≤ room
     go true c e = omega arith
     go false true e = omega arith
     go false false e = ltb-false room (length (bytes_due s file expired)) e
 
 -- how a burst that began at g₀ with the buffer out₀ stands
-pub record Goes (g₀ : Going) (file out₀ : List ℕ) (g : Going) (out : List ℕ) : Type 0 where
+pub record Goes (g₀ : Course) (file out₀ : List ℕ) (g : Course) (out : List ℕ) : Type 0 where
   pub stands : Stands g (length out)
   pub whole : length out ≡ length out₀
   pub makes : made_from g file (length out) ≡ made_from g₀ file (length out₀)
   pub lays : laid_from g file out ≡ laid_from g₀ file out₀
 
-pub goes_first : (g : Going) (file out : List ℕ) → Stands g (length out) → Goes g file out g out
+pub goes_first : (g : Course) (file out : List ℕ) → Stands g (length out) → Goes g file out g out
 goes_first g file out z = record { stands = z; whole = refl; makes = refl; lays = refl }
 
-pub fewer : (g : Going) (r : Stepped) → 0 < g.left → (further g r).left < g.left
+pub fewer : (g : Course) (r : Stepped) → 0 < g.left → (further g r).left < g.left
 fewer g r l = go r.answer (eqb r.length 0) refl
   where
-    go : (a : Answer) (quiet : Bool) → eqb r.length 0 ≡ quiet → (further_by g r a).left < g.left
-    go Accepted true q = let k = left-none g.left r.length q in omega arith
-    go Accepted false q = let k = left-more g.left (g.left - 1) (omega arith) r.length q in omega arith
-    go (Refused k) quiet q = l
+    go : (a : Result ⊤ Refusal) (quiet : Bool) → eqb r.length 0 ≡ quiet → (further_by g r a).left < g.left
+    go (Ok tt) true q = let k = left-none g.left r.length q in omega arith
+    go (Ok tt) false q = let k = left-more g.left (g.left - 1) (omega arith) r.length q in omega arith
+    go (Err k) quiet q = l
 
-pub goes_on : (g₀ : Going) (file out₀ : List ℕ) (g : Going) (out : List ℕ) → Goes g₀ file out₀ g out → 0 < g.left
+pub goes_on : (g₀ : Course) (file out₀ : List ℕ) (g : Course) (out : List ℕ) → Goes g₀ file out₀ g out → 0 < g.left
     → (r : Stepped) → r ≡ step_outcome g.burst.state file false (length out - g.at)
     → (out' : List ℕ) → out' ≡ take g.at out ++ step_bytes g.burst.state file false (drop g.at out)
-    → (g' : Going) → g' ≡ further g r
+    → (g' : Course) → g' ≡ further g r
     → Goes g₀ file out₀ g' out'
 goes_on g₀ file out₀ g out k l r e out' f g' h =
     let n = g.left - 1 in
@@ -259,7 +259,7 @@ goes_on g₀ file out₀ g out k l r e out' f g' h =
       lays = laid_turn g file out n q z ∙ k.lays;
     })
 
-pub goes_last : (g₀ : Going) (file out₀ : List ℕ) (g : Going) (out : List ℕ) → Goes g₀ file out₀ g out → ¬ (0 < g.left)
+pub goes_last : (g₀ : Course) (file out₀ : List ℕ) (g : Course) (out : List ℕ) → Goes g₀ file out₀ g out → ¬ (0 < g.left)
     → (g.burst ≡ made_from g₀ file (length out₀)) × (out ≡ laid_from g₀ file out₀)
 unfolding burst_on laid_of
 goes_last g₀ file out₀ g out k l =
@@ -272,7 +272,7 @@ goes_last g₀ file out₀ g out k l =
 
 -- a burst by the definition
 burst-is : (s : State) (file : List ℕ) (expired : Bool) (count room : ℕ) → count ≤ 16
-    → burst_outcome s file expired count room ≡ burst_of (pick (eqb count 0) Accepted (step_outcome s file expired room).answer) s (steps_of count s file expired room)
+    → burst_outcome s file expired count room ≡ burst_of (pick (eqb count 0) (Ok tt) (step_outcome s file expired room).answer) s (steps_of count s file expired room)
 unfolding burst_outcome burst_answer allowed
 burst-is s file expired count room l = rw (le-ltb 16 count l)
 
@@ -281,18 +281,18 @@ unfolding burst_bytes allowed
 laid-is s file expired count out l = rw (le-ltb 16 count l)
 
 pub too_long : (s : State) (file : List ℕ) (expired : Bool) (count : ℕ) (out : List ℕ) → 16 < count
-    → (no_steps (Refused BurstTooLong) s ≡ burst_outcome s file expired count (length out)) × (out ≡ burst_bytes s file expired count out)
+    → (none_of (Err BurstTooLong) s ≡ burst_outcome s file expired count (length out)) × (out ≡ burst_bytes s file expired count out)
 unfolding burst_outcome burst_answer allowed burst_bytes steps_of laid_of in_places
 too_long s file expired count out l = (rw (lt-ltb 16 count l), rw (lt-ltb 16 count l))
 
 pub of_none : (s : State) (file : List ℕ) (expired : Bool) (count : ℕ) (out : List ℕ) → count ≡ 0
-    → (no_steps Accepted s ≡ burst_outcome s file expired count (length out)) × (out ≡ burst_bytes s file expired count out)
+    → (none_of (Ok tt) s ≡ burst_outcome s file expired count (length out)) × (out ≡ burst_bytes s file expired count out)
 unfolding burst_outcome burst_answer allowed burst_bytes steps_of laid_of in_places
 of_none s file expired count out e = (rw e, rw e)
 
 pub first-refused : (s : State) (file : List ℕ) (expired : Bool) (count : ℕ) (out : List ℕ) (k : Refusal) → 0 < count → count ≤ 16
-    → (step_outcome s file expired (length out)).answer ≡ Refused k
-    → (no_steps (Refused k) s ≡ burst_outcome s file expired count (length out)) × (step_bytes s file expired out ≡ burst_bytes s file expired count out)
+    → (step_outcome s file expired (length out)).answer ≡ Err k
+    → (none_of (Err k) s ≡ burst_outcome s file expired count (length out)) × (step_bytes s file expired out ≡ burst_bytes s file expired count out)
 unfolding in_places
 first-refused s file expired count out k l m e =
     let n : ¬ (answer_no (step_outcome s file expired (length out)).answer ≡ 0) = rw e (numbered k) in
@@ -303,15 +303,15 @@ first-refused s file expired count out k l m e =
 
 -- those behind the first
 steps_first : (s : State) (file : List ℕ) (expired : Bool) (n room : ℕ) → let r = step_outcome s file expired room in
-    r.answer ≡ Accepted → r ∷ steps_of (left_of (suc n) r.length) r.state file false (room - r.length) ≡ steps_of (suc n) s file expired room
+    r.answer ≡ Ok tt → r ∷ steps_of (left_of (suc n) r.length) r.state file false (room - r.length) ≡ steps_of (suc n) s file expired room
 unfolding steps_of
 steps_first s file expired n room e = go (step_outcome s file expired room) (step_outcome s file expired room).answer e (eqb (step_outcome s file expired room).length 0) refl
   where
-    go : (r : Stepped) (a : Answer) → a ≡ Accepted → (quiet : Bool) → eqb r.length 0 ≡ quiet
+    go : (r : Stepped) (a : Result ⊤ Refusal) → a ≡ Ok tt → (quiet : Bool) → eqb r.length 0 ≡ quiet
         → r ∷ steps_of (left_of (suc n) r.length) r.state file false (room - r.length) ≡ if_made a (r ∷ pick quiet [] (steps_of n r.state file false (room - r.length)))
-    go r Accepted e true q = ap (λ (k : ℕ). r ∷ steps_of k r.state file false (room - r.length)) (left-none (suc n) r.length q)
-    go r Accepted e false q = ap (λ (k : ℕ). r ∷ steps_of k r.state file false (room - r.length)) (left-more (suc n) n refl r.length q)
-    go r (Refused k) e quiet q = differ cc
+    go r (Ok tt) e true q = ap (λ (k : ℕ). r ∷ steps_of k r.state file false (room - r.length)) (left-none (suc n) r.length q)
+    go r (Ok tt) e false q = ap (λ (k : ℕ). r ∷ steps_of k r.state file false (room - r.length)) (left-more (suc n) n refl r.length q)
+    go r (Err k) e quiet q = differ cc
 
 laid-first : (s : State) (file : List ℕ) (expired : Bool) (n : ℕ) (out : List ℕ) → let r = step_outcome s file expired (length out) in
     let o = step_bytes s file expired out in
@@ -338,7 +338,7 @@ no_more n k m = go (eqb k 0) refl
     go false q = let e = left-more (suc n) n refl k q in omega arith
 
 pub first_made : (s : State) (file : List ℕ) (expired : Bool) (count : ℕ) (out : List ℕ) → 0 < count → count ≤ 16
-    → (step_outcome s file expired (length out)).answer ≡ Accepted
+    → (step_outcome s file expired (length out)).answer ≡ Ok tt
     → let g = begun s (step_outcome s file expired (length out)) count in
     (made_from g file (length out) ≡ burst_outcome s file expired count (length out))
     × (laid_from g file (step_bytes s file expired out) ≡ burst_bytes s file expired count out)
@@ -347,10 +347,10 @@ first_made s file expired zero out l m e = absurd (omega (arith, l))
 first_made s file expired (suc n) out l m e =
     let r = step_outcome s file expired (length out) in
     let z : eqb (suc n) 0 ≡ false = ne_eqb (suc n) 0 (λ h. omega (arith, h)) in (
-      ap (λ (b : Bursted). burst_on (left_of (suc n) r.length) b file (length out - r.length)) (one_more Accepted s [] r (omega arith))
-          ∙ on-is (left_of (suc n) r.length) Accepted s (r ∷ []) file (length out - r.length) (no_more n r.length m)
-          ∙ ap (burst_of Accepted s) (steps_first s file expired n (length out) e)
-          ∙ sym (burst-is s file expired (suc n) (length out) m ∙ ap (λ (a : Answer). burst_of a s (steps_of (suc n) s file expired (length out))) (rw (z, e))),
+      ap (λ (b : Bursted). burst_on (left_of (suc n) r.length) b file (length out - r.length)) (one_more (Ok tt) s [] r (omega arith))
+          ∙ on-is (left_of (suc n) r.length) (Ok tt) s (r ∷ []) file (length out - r.length) (no_more n r.length m)
+          ∙ ap (burst_of (Ok tt) s) (steps_first s file expired n (length out) e)
+          ∙ sym (burst-is s file expired (suc n) (length out) m ∙ ap (λ (a : Result ⊤ Refusal). burst_of a s (steps_of (suc n) s file expired (length out))) (rw (z, e))),
       laid-first s file expired n out ∙ sym (laid-is s file expired (suc n) out m),
     )
 
@@ -358,7 +358,7 @@ first_made s file expired (suc n) out l m e =
 
 module _ (s : State) (file : List ℕ) (expired : Bool) (count : ℕ) (out : List ℕ) (l : 0 < count) (m : count ≤ 16)
     (r : Stepped) (e : r ≡ step_outcome s file expired (length out)) (o : List ℕ) (f : o ≡ step_bytes s file expired out) where
-  pub first-stands : (g : Going) → g ≡ begun s r count → (g.at ≤ length o) × (g.burst.count + g.left ≤ 16)
+  pub first-stands : (g : Course) → g ≡ begun s r count → (g.at ≤ length o) × (g.burst.count + g.left ≤ 16)
   first-stands g h =
       let z = step_room s file expired (length out) in
       let y = step-length s file expired out in
@@ -368,18 +368,64 @@ module _ (s : State) (file : List ℕ) (expired : Bool) (count : ℕ) (out : Lis
       let c : left_of (suc (count - 1)) r.length ≡ left_of count r.length = ap (λ (i : ℕ). left_of i r.length) (omega arith) in
       rw h (omega arith, omega arith)
 
-  pub first_done : r.answer ≡ Accepted → (g : Going) → g ≡ begun s r count → (b : Bursted) → b ≡ made_from g file (length o) → (q : List ℕ) → q ≡ laid_from g file o
+  pub first_done : r.answer ≡ Ok tt → (g : Course) → g ≡ begun s r count → (b : Bursted) → b ≡ made_from g file (length o) → (q : List ℕ) → q ≡ laid_from g file o
       → (b ≡ burst_outcome s file expired count (length out)) × (q ≡ burst_bytes s file expired count out)
   first_done a g h b i q j =
       let k = first_made s file expired count out l m (ap (λ (x : Stepped). x.answer) (sym e) ∙ a) in
       let w : length o ≡ length out = ap length f ∙ step-length s file expired out in
       let y : g ≡ begun s (step_outcome s file expired (length out)) count = h ∙ ap (λ (x : Stepped). begun s x count) e in (
-        i ∙ ap₂ (λ (x : Going) (n : ℕ). made_from x file n) y w ∙ k.0,
-        j ∙ ap₂ (λ (x : Going) (n : List ℕ). laid_from x file n) y f ∙ k.1,
+        i ∙ ap₂ (λ (x : Course) (n : ℕ). made_from x file n) y w ∙ k.0,
+        j ∙ ap₂ (λ (x : Course) (n : List ℕ). laid_from x file n) y f ∙ k.1,
       )
 
-  pub first-not : (k : Refusal) → r.answer ≡ Refused k → (b : Bursted) → b ≡ no_steps (Refused k) s
+  pub first-not : (k : Refusal) → r.answer ≡ Err k → (b : Bursted) → b ≡ none_of (Err k) s
       → (b ≡ burst_outcome s file expired count (length out)) × (o ≡ burst_bytes s file expired count out)
   first-not k a b i =
       let n = first-refused s file expired count out k l m (ap (λ (x : Stepped). x.answer) (sym e) ∙ a) in
       (i ∙ n.0, f ∙ n.1)
+
+-- ---- what the code holds, and the same with the state in it
+
+step_stays : (s : State) (file : List ℕ) (expired : Bool) (room : ℕ) (k : Refusal) → (step_outcome s file expired room).answer ≡ Err k → (step_outcome s file expired room).state ≡ s
+unfolding step_outcome performed
+step_stays s file expired room k = go (changed s (length file)) (ltb room (length (bytes_due s file expired)))
+  where
+    go : (b c : Bool) → let r = pick b (refused_step s FileChanged) (pick c (refused_step s OutTooSmall) (record {
+      answer = Ok tt;
+      length = length (bytes_due s file expired);
+      events = events_of s (due_of s expired);
+      state = after_of s file (due_of s expired);
+    })) in r.answer ≡ Err k → r.state ≡ s
+    go true c e = refl
+    go false true e = refl
+    go false false e = differ cc
+
+pub taken-is : (s t : State) (r : Result Made Refusal) → taken_by r ≡ (stepped_as s r t).length
+taken-is s t (Ok m) = refl
+taken-is s t (Err k) = refl
+
+-- a step further is a step further: r is what the step returned, t the state behind it
+pub moved-is : (g : Going) (s t : State) (r : Result Made Refusal) (file : List ℕ) (room : ℕ) → stepped_as s r t ≡ step_outcome s file false room
+    → course_of (moved g r) t ≡ further (course_of g s) (stepped_as s r t)
+moved-is g s t (Ok m) file room e = refl
+moved-is g s t (Err k) file room e =
+    let z : t ≡ s = ap (λ (q : Stepped). q.state) e ∙ step_stays s file false room k (sym (ap (λ (q : Stepped). q.answer) e)) in
+    ap (λ (x : State). course_of (record { burst = g.burst; at = g.at; left = 0 }) x) z
+
+-- ---- the first step, as the code has it
+
+module _ (s : State) (file : List ℕ) (expired : Bool) (count : ℕ) (out : List ℕ) (l : 0 < count) (m : count ≤ 16) (t : State) (o : List ℕ) where
+  pub first-err : (k : Refusal) → (stepped_as s (Err k) t ≡ step_outcome s file expired (length out)) × (o ≡ step_bytes s file expired out)
+      → (bursted_as (Err k) t ≡ burst_outcome s file expired count (length out)) × (o ≡ burst_bytes s file expired count out)
+  first-err k e =
+      let z : t ≡ s = ap (λ (q : Stepped). q.state) e.0 ∙ step_stays s file expired (length out) k (sym (ap (λ (q : Stepped). q.answer) e.0)) in
+      first-not s file expired count out l m (stepped_as s (Err k) t) e.0 o e.1 k refl (bursted_as (Err k) t) (ap (bursted_as (Err k)) z)
+
+  module _ (a : Made) (e : (stepped_as s (Ok a) t ≡ step_outcome s file expired (length out)) × (o ≡ step_bytes s file expired out)) where
+    pub first-places : (g : Going) → g ≡ begun_with a count → (g.at ≤ length o) × (g.burst.count + g.left ≤ 16)
+    first-places g h = first-stands s file expired count out l m (stepped_as s (Ok a) t) e.0 o e.1 (course_of g t) (ap (λ (x : Going). course_of x t) h)
+
+    pub first-ok : (g : Going) → g ≡ begun_with a count → (b : Burst) (u : State) → so_far b u ≡ made_from (course_of g t) file (length o)
+        → (q : List ℕ) → q ≡ laid_from (course_of g t) file o
+        → (bursted_as (Ok b) u ≡ burst_outcome s file expired count (length out)) × (q ≡ burst_bytes s file expired count out)
+    first-ok g h b u i q j = first_done s file expired count out l m (stepped_as s (Ok a) t) e.0 o e.1 refl (course_of g t) (ap (λ (x : Going). course_of x t) h) (so_far b u) i q j

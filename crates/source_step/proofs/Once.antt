@@ -1,6 +1,7 @@
 -- The state with the checksum behind the step is the definition's; and the expiry count that a step moves was below the limit.
 -- Assumes nothing.
-use mathlib.Core.Path.{◌≡◌, refl, sym, ◌∙◌}
+use Rattle.std.specs.Prelude.{Err, None, Ok, Option, Some, min}
+use mathlib.Core.Path.{◌≡◌, refl, sym, ap, ◌∙◌}
 use mathlib.Core.Bool.{Bool}
 use mathlib.Core.List.{List}
 use Prim.Native.Nat.{ℕ, ◌+◌}
@@ -10,6 +11,7 @@ use lib.ListN.{length}
 use borrow.Author.Tests.{leb-false}
 use Rattle.basis.proofs.Pick.{cases}
 use Rattle.rules_pdu.specs.Layout.{written_of}
+use Rattle.rules.specs.States.{with_marks, counted}
 use Rattle.rules.specs.Step.{action_for, fault_due, ack_expired, check_expired, due_at, eof_owed, due_of, sending_of, bytes_for, after_of, events_of, performed}
 use Rattle.types.specs.declared.State.{State}
 use Rattle.types.specs.declared.TransactionStep.{TransactionStep}
@@ -17,42 +19,39 @@ use Rattle.types.specs.declared.TransactionStep.TheVariants.{Idle, SendingMetada
 use Rattle.types.specs.declared.Due.{Due}
 use Rattle.types.specs.declared.Due.TheVariants.{CancelEof, Repair, Metadata, Data, NoErrorEof, EofAgain, FaultCancel, FaultIgnore, FaultAbandon, Close, Nothing}
 use Rattle.types.specs.declared.Sending.{Sending}
-use Rattle.types.specs.declared.Written.{Written}
-use Rattle.types.specs.declared.Written.TheVariants.{Short, Wrote}
 use Rattle.types.specs.declared.Refusal.TheVariants.{OutTooSmall}
-use Rattle.types.specs.declared.Answer.TheVariants.{Accepted}
-use Rattle.source_step.proofs.Written.{on-short, on-wrote}
+use Rattle.source_step.proofs.Written.{on-none, on-some}
 use Rattle.source_step.specs.Once.{sum_after, after_with, Countable}
-use Rattle.source_step.specs.Outcomes.{refused_by, accepted_by, stepped_by}
+use Rattle.source_step.specs.Outcomes.{stepped_by}
 
-pub after_once : (s : State) (file : List ℕ) (d : Due) → after_with s (sum_after s file d) d ≡ after_of s file d
-after_once s file CancelEof = refl
-after_once s file Repair = refl
-after_once s file Metadata = refl
-after_once s file Data = refl
-after_once s file NoErrorEof = refl
-after_once s file EofAgain = refl
-after_once s file (FaultCancel c) = refl
-after_once s file (FaultIgnore c) = refl
-after_once s file (FaultAbandon c) = refl
-after_once s file Close = refl
-after_once s file Nothing = refl
+pub after_once : (s : State) (file : List ℕ) (d : Due) → Countable s d → after_with s (sum_after s file d) d ≡ after_of s file d
+after_once s file CancelEof c = refl
+after_once s file Repair c = refl
+after_once s file Metadata c = refl
+after_once s file Data c = refl
+after_once s file NoErrorEof c = refl
+after_once s file EofAgain c = let e : min (s.marks.count + 1) s.fixed.limit ≡ s.marks.count + 1 = omega (arith, c) in ap (λ (n : ℕ). with_marks s (counted s.marks n)) e
+after_once s file (FaultCancel k) c = refl
+after_once s file (FaultIgnore k) c = refl
+after_once s file (FaultAbandon k) c = refl
+after_once s file Close c = refl
+after_once s file Nothing c = refl
 
 -- what a writer answered, w, is the definition's test of the room
-module _ (s : State) (file : List ℕ) (d : Due) (p : Sending) (out : List ℕ) (w : Written) (sent : p ≡ sending_of s d) (said : w ≡ written_of (bytes_for s file p) out) where
+module _ (s : State) (file : List ℕ) (d : Due) (p : Sending) (out : List ℕ) (w : Option ℕ) (sent : p ≡ sending_of s d) (said : w ≡ written_of (bytes_for s file p) out) where
   said_of : w ≡ written_of (bytes_for s file (sending_of s d)) out
   said_of = rw sent at said
 
-  pub made-short : w ≡ Short → stepped_by s (refused_by OutTooSmall) ≡ performed s file d (length out)
+  pub made-none : w ≡ None → stepped_by s (Err OutTooSmall) ≡ performed s file d (length out)
   unfolding performed
-  made-short e = on-short (bytes_for s file (sending_of s d)) out _ _ (sym e ∙ said_of)
+  made-none e = on-none (bytes_for s file (sending_of s d)) out _ _ (sym e ∙ said_of)
 
-  pub made-wrote : (n : ℕ) → w ≡ Wrote n → stepped_by s (accepted_by d (sum_after s file d) n) ≡ performed s file d (length out)
+  pub made-some : Countable s d → (n : ℕ) → w ≡ Some n → stepped_by s (Ok (record { due = d; sum = sum_after s file d; length = n })) ≡ performed s file d (length out)
   unfolding performed
-  made-wrote n e =
-      rw (after_once s file d)
-      (on-wrote (bytes_for s file (sending_of s d)) out n _
-      (λ (k : ℕ). record { answer = Accepted; length = k; events = events_of s d; state = after_of s file d }) (sym e ∙ said_of))
+  made-some c n e =
+      rw (after_once s file d c)
+      (on-some (bytes_for s file (sending_of s d)) out n _
+      (λ (k : ℕ). record { answer = Ok tt; length = k; events = events_of s d; state = after_of s file d }) (sym e ∙ said_of))
 
 module _ (s : State) (expired : Bool) where
   fault : (condition : ℕ) → Countable s (fault_due s condition)

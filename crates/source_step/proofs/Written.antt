@@ -1,5 +1,6 @@
 -- What a writer's answer says of the buffer's room, for any bytes.
 -- Assumes nothing.
+use Rattle.std.specs.Prelude.{None, Some}
 use mathlib.Core.Path.{◌≡◌, refl, ap}
 use mathlib.Core.Bool.{Bool, true, false}
 use mathlib.Core.List.{List}
@@ -9,22 +10,21 @@ use lib.Dec.{ltb}
 use lib.ListN.{length}
 use Rattle.basis.specs.Pick.{pick}
 use Rattle.rules_pdu.specs.Layout.{written_of}
-use Rattle.types.specs.declared.Written.TheVariants.{Short, Wrote}
 
--- Short: the branch for a buffer that is too small
-short : {A : Type 0} (b : Bool) (n : ℕ) (x y : A) → Short ≡ pick b Short (Wrote n) → x ≡ pick b x y
-short true n x y e = refl
-short false n x y e = let z : ◌≡◌ {A = ℕ} 0 1 = cc in absurd (omega arith)
+-- None: the branch for a buffer that is too small
+none_of : {A : Type 0} (b : Bool) (n : ℕ) (x y : A) → None ≡ pick b None (Some n) → x ≡ pick b x y
+none_of true n x y e = refl
+none_of false n x y e = let z : ◌≡◌ {A = ℕ} 0 1 = cc in absurd (omega arith)
 
-pub on-short : {A : Type 0} (bs out : List ℕ) (x y : A) → Short ≡ written_of bs out → x ≡ pick (ltb (length out) (length bs)) x y
+pub on-none : {A : Type 0} (bs out : List ℕ) (x y : A) → None ≡ written_of bs out → x ≡ pick (ltb (length out) (length bs)) x y
 unfolding written_of
-on-short bs out x y e = short (ltb (length out) (length bs)) (length bs) x y e
+on-none bs out x y e = none_of (ltb (length out) (length bs)) (length bs) x y e
 
--- Wrote: the other, and the number is the bytes' length
-wrote : {A : Type 0} (b : Bool) (m n : ℕ) (x : A) (f : ℕ → A) → Wrote m ≡ pick b Short (Wrote n) → f m ≡ pick b x (f n)
-wrote true m n x f e = let z : ◌≡◌ {A = ℕ} 0 1 = cc in absurd (omega arith)
-wrote false m n x f e = let z : m ≡ n = cc in ap f z
+-- Some: the other, and the number is the bytes' length
+some_of : {A : Type 0} (b : Bool) (m n : ℕ) (x : A) (f : ℕ → A) → Some m ≡ pick b None (Some n) → f m ≡ pick b x (f n)
+some_of true m n x f e = let z : ◌≡◌ {A = ℕ} 0 1 = cc in absurd (omega arith)
+some_of false m n x f e = let z : m ≡ n = cc in ap f z
 
-pub on-wrote : {A : Type 0} (bs out : List ℕ) (m : ℕ) (x : A) (f : ℕ → A) → Wrote m ≡ written_of bs out → f m ≡ pick (ltb (length out) (length bs)) x (f (length bs))
+pub on-some : {A : Type 0} (bs out : List ℕ) (m : ℕ) (x : A) (f : ℕ → A) → Some m ≡ written_of bs out → f m ≡ pick (ltb (length out) (length bs)) x (f (length bs))
 unfolding written_of
-on-wrote bs out m x f e = wrote (ltb (length out) (length bs)) m (length bs) x f e
+on-some bs out m x f e = some_of (ltb (length out) (length bs)) m (length bs) x f e

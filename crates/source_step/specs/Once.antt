@@ -1,6 +1,6 @@
 -- How the code of a step keeps to the definitions while it reads the file once its PDU is written: the new state takes the checksum behind the step from there.
 -- Assumes nothing.
-use Rattle.std.specs.Prelude.{List, ℕ, ◌+◌, ◌<◌}
+use Rattle.std.specs.Prelude.{List, ℕ, ◌+◌, ◌<◌, min}
 use Rattle.rules.specs.States.{with_queue, with_marks, counted, idle}
 use Rattle.rules.specs.Queues.{served}
 use Rattle.rules.specs.Step.{after_cancel_eof, after_metadata, sum_behind, after_data, after_eof, fault_marked}
@@ -29,7 +29,7 @@ after_with s k Repair = with_queue s (served s.fixed.segment s.queue)
 after_with s k Metadata = after_metadata s
 after_with s k Data = after_data s k
 after_with s k NoErrorEof = after_eof s
-after_with s k EofAgain = with_marks s (counted s.marks (s.marks.count + 1))
+after_with s k EofAgain = with_marks s (counted s.marks (min (s.marks.count + 1) s.fixed.limit))
 after_with s k (FaultCancel c) = after_cancel_eof (fault_marked s c)
 after_with s k (FaultIgnore c) = with_marks s (counted s.marks 0)
 after_with s k (FaultAbandon c) = idle s.number

@@ -8,30 +8,17 @@ use types::{EntityId, State, TransactionSeqNum, TransactionStep};
 fn can_cancel(step: TransactionStep) -> bool
     ensures { result ≡ can_cancel step }
 {
-    match step {
-        TransactionStep::Idle => false,
-        TransactionStep::SendingMetadata => true,
-        TransactionStep::SendingFileData => true,
-        TransactionStep::SendingEof => true,
-        TransactionStep::WaitingForEofAck => true,
-        TransactionStep::WaitingForFinished => true,
-        TransactionStep::Closing => false,
-    }
+    !matches!(step, TransactionStep::Idle | TransactionStep::Closing)
 }
 
 // Ids and numbers are compared by value, not by width.
-pub(crate) fn may_cancel(s: State, source: EntityId, number: TransactionSeqNum) -> bool
-    ensures { result ≡ may_cancel s source number }
+#[tactic(auto, unfolding(rules::specs::Cancel::may_cancel))]
+pub(crate) fn may_cancel(s: &State, source: EntityId, number: TransactionSeqNum) -> bool
+    ensures { result ≡ may_cancel s.now source number }
 {
-    let step = s.step;
-    if !can_cancel(step) {
-        return false;
-    }
-    if s.marks.cancelled {
-        return false;
-    }
-    if source.1 != s.fixed.head.source.1 {
-        return false;
-    }
-    number.1 == s.fixed.head.number.1
+    let head = s.fixed.head;
+    can_cancel(s.step)
+        && !s.marks.cancelled
+        && source.1 == head.source.1
+        && number.1 == head.number.1
 }

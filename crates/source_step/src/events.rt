@@ -1,80 +1,68 @@
 // The events of each case, one record in their fixed order.
 // After cfdp-rs 0.3.0, src/source.rs (Apache-2.0); changed, see NOTICE.
-ghost use Rattle.std.specs.Prelude.{◌≡◌, false};
+ghost use Rattle.std.specs.Prelude.{◌≡◌, false, Some};
 ghost use Rattle.rules.specs.Step.{id_of, quiet, finished_if, ack_timer, eof_timer, eof_finished, events_of};
-ghost use Rattle.types.specs.declared.Due.TheVariants.{Metadata, Close};
-ghost use Rattle.types.specs.declared.FaultEvent.TheVariants.{Fault};
-ghost use Rattle.types.specs.declared.FinishedEvent.TheVariants.{NotFinished};
-ghost use Rattle.types.specs.declared.TimerEvent.TheVariants.{NoTimer};
 
-use types::{
-    Due, Events, FaultEvent, FinishedEvent, FinishedParams, State, TimerEvent, TransactionId,
-};
+use types::{Due, Events, Fault, FinishedParams, State, Timer, TransactionId};
 
-fn id_of(s: State) -> TransactionId
-    ensures { result ≡ id_of s }
+fn id_of(s: &State) -> TransactionId
+    ensures { result ≡ id_of s.now }
 {
-    let source = s.fixed.head.source;
-    let number = s.fixed.head.number;
-    TransactionId(source, number)
+    TransactionId(s.fixed.head.source, s.fixed.head.number)
 }
 
 // None.
-pub fn quiet(s: State) -> Events
-    ensures { result ≡ quiet s }
+pub fn quiet(s: &State) -> Events
+    ensures { result ≡ quiet s.now }
 {
-    let id = id_of(s);
     Events {
-        id: id,
+        id: id_of(s),
         transaction: false,
         eofsent: false,
-        fault: FaultEvent::NoFault,
-        finished: FinishedEvent::NotFinished,
-        timer: TimerEvent::NoTimer,
+        fault: None,
+        finished: None,
+        timer: None,
     }
 }
 
 // A finished event, if the configuration's flag is set.
-fn notice_of_completion(s: State, p: FinishedParams) -> FinishedEvent
-    ensures { result ≡ finished_if s p }
+#[tactic(auto, unfolding(rules::specs::Step::finished_if))]
+fn notice_of_completion(s: &State, p: FinishedParams) -> Option<FinishedParams>
+    ensures { result ≡ finished_if s.now p }
 {
-    if s.fixed.finished {
-        return FinishedEvent::Finished(p);
-    }
-    FinishedEvent::NotFinished
+    if s.fixed.finished { Some(p) } else { None }
 }
 
 // The ack timer of an EOF that waits for its ACK.
-fn ack_timer(s: State) -> TimerEvent
-    ensures { result ≡ ack_timer s }
+#[tactic(auto, unfolding(rules::specs::Step::ack_timer))]
+fn ack_timer(s: &State) -> Option<Timer>
+    ensures { result ≡ ack_timer s.now }
 {
     if s.fixed.head.unacknowledged {
-        return TimerEvent::NoTimer;
+        None
+    } else {
+        Some(Timer::Ack)
     }
-    TimerEvent::AckTimer
 }
 
-fn eof_timer(s: State) -> TimerEvent
-    ensures { result ≡ eof_timer s }
+#[tactic(auto, unfolding(rules::specs::Step::eof_timer))]
+fn eof_timer(s: &State) -> Option<Timer>
+    ensures { result ≡ eof_timer s.now }
 {
-    if !s.fixed.head.unacknowledged {
-        return TimerEvent::AckTimer;
+    match (s.fixed.head.unacknowledged, s.fixed.closure) {
+        (false, _) => Some(Timer::Ack),
+        (true, true) => Some(Timer::Check),
+        (true, false) => None,
     }
-    if s.fixed.closure {
-        return TimerEvent::CheckTimer;
-    }
-    TimerEvent::NoTimer
 }
 
 // Unacknowledged without closure the EOF is the end: no error, complete, unreported.
-fn eof_finished(s: State) -> FinishedEvent
-    ensures { result ≡ eof_finished s }
+#[tactic(auto, unfolding(rules::specs::Step::eof_finished))]
+fn eof_finished(s: &State) -> Option<FinishedParams>
+    ensures { result ≡ eof_finished s.now }
 {
-    if !s.fixed.head.unacknowledged {
-        return FinishedEvent::NotFinished;
-    }
-    if s.fixed.closure {
-        return FinishedEvent::NotFinished;
+    if !s.fixed.head.unacknowledged || s.fixed.closure {
+        return None;
     }
     let unreported = FinishedParams {
         condition: 0,
@@ -84,95 +72,59 @@ fn eof_finished(s: State) -> FinishedEvent
     notice_of_completion(s, unreported)
 }
 
-// 3: the transaction.
-fn begun(s: State) -> Events
-    ensures { result ≡ events_of s Metadata }
-{
-    let id = id_of(s);
-    Events {
-        id: id,
-        transaction: true,
-        eofsent: false,
-        fault: FaultEvent::NoFault,
-        finished: FinishedEvent::NotFinished,
-        timer: TimerEvent::NoTimer,
-    }
-}
-
 // An EOF left.
-fn eof_sent(s: State, fault: FaultEvent, finished: FinishedEvent, timer: TimerEvent) -> Events
-    ensures { result ≡ record { id = id_of s; transaction = false; eofsent = s.fixed.eofsent; fault = fault; finished = finished; timer = timer } }
+fn eof_sent(
+    s: &State,
+    fault: Option<Fault>,
+    finished: Option<FinishedParams>,
+    timer: Option<Timer>,
+) -> Events
+    ensures { result ≡ record { id = id_of s.now; transaction = false; eofsent = s.now.fixed.eofsent; fault = fault; finished = finished; timer = timer } }
 {
-    let id = id_of(s);
     Events {
-        id: id,
-        transaction: false,
         eofsent: s.fixed.eofsent,
-        fault: fault,
-        finished: finished,
-        timer: timer,
+        fault,
+        finished,
+        timer,
+        ..quiet(s)
     }
 }
 
-// 8: the Finished PDU's values.
-fn closed(s: State) -> Events
-    ensures { result ≡ events_of s Close }
+// A fault: its action by document 01's number.
+fn fault(s: &State, action: u8, condition: u8) -> Option<Fault>
+    ensures { result ≡ Some (record { action = action; condition = condition; progress = s.now.file.progress }) }
 {
-    let finished = notice_of_completion(s, s.marks.finished);
-    let id = id_of(s);
-    Events {
-        id: id,
-        transaction: false,
-        eofsent: false,
-        fault: FaultEvent::NoFault,
-        finished: finished,
-        timer: TimerEvent::NoTimer,
-    }
-}
-
-fn fault_event(s: State, action: u8, condition: u8) -> FaultEvent
-    ensures { result ≡ Fault action condition s.file.progress }
-{
-    FaultEvent::Fault {
-        action: action,
-        condition: condition,
+    Some(Fault {
+        action,
+        condition,
         progress: s.file.progress,
-    }
+    })
 }
 
-// A fault that sends nothing: ignore or abandon.
-fn fault_only(s: State, action: u8, condition: u8) -> Events
-    ensures { result ≡ record { id = id_of s; transaction = false; eofsent = false; fault = Fault action condition s.file.progress; finished = NotFinished; timer = NoTimer } }
+pub fn events_of(s: &State, d: Due) -> Events
+    ensures { result ≡ events_of s.now d }
 {
-    let fault = fault_event(s, action, condition);
-    let id = id_of(s);
-    Events {
-        id: id,
-        transaction: false,
-        eofsent: false,
-        fault: fault,
-        finished: FinishedEvent::NotFinished,
-        timer: TimerEvent::NoTimer,
-    }
-}
-
-pub fn events_of(s: State, d: Due) -> Events
-    ensures { result ≡ events_of s d }
-{
-    let no_fault = FaultEvent::NoFault;
-    let not_finished = FinishedEvent::NotFinished;
-    let ack = TimerEvent::AckTimer;
     match d {
-        Due::CancelEof => eof_sent(s, no_fault, not_finished, ack_timer(s)),
-        Due::Repair => quiet(s),
-        Due::Metadata => begun(s),
-        Due::Data => quiet(s),
-        Due::NoErrorEof => eof_sent(s, no_fault, eof_finished(s), eof_timer(s)),
-        Due::EofAgain => eof_sent(s, no_fault, not_finished, ack),
-        Due::FaultCancel(c) => eof_sent(s, fault_event(s, 1, c), not_finished, ack_timer(s)),
-        Due::FaultIgnore(c) => fault_only(s, 3, c),
-        Due::FaultAbandon(c) => fault_only(s, 4, c),
-        Due::Close => closed(s),
-        Due::Nothing => quiet(s),
+        Due::CancelEof => eof_sent(s, None, None, ack_timer(s)),
+        Due::Metadata => Events {
+            transaction: true,
+            ..quiet(s)
+        },
+        Due::NoErrorEof => eof_sent(s, None, eof_finished(s), eof_timer(s)),
+        Due::EofAgain => eof_sent(s, None, None, Some(Timer::Ack)),
+        Due::FaultCancel(c) => eof_sent(s, fault(s, 1, c), None, ack_timer(s)),
+        Due::FaultIgnore(c) => Events {
+            fault: fault(s, 3, c),
+            ..quiet(s)
+        },
+        Due::FaultAbandon(c) => Events {
+            fault: fault(s, 4, c),
+            ..quiet(s)
+        },
+        Due::Close => Events {
+            finished: notice_of_completion(s, s.marks.finished),
+            ..quiet(s)
+        },
+        Due::Repair | Due::Data | Due::Nothing => quiet(s),
     }
 }

@@ -7,9 +7,9 @@ use Rattle.source_deliver.proofs.heard.Goals as goal
 
 pub returns-then-is_other : goal.returns-then-is_other
 unfolding heard_done
-returns-then-is_other c = let a = c.args in pick-t (is_other a.s a.f) _ _ _ (search told) refl
+returns-then-is_other c = let a = c.args in pick-t (is_other a.s.now a.f) _ _ _ (search told) refl
 
 pub returns : goal.returns
 unfolding heard_done
 returns c = let a = c.args in
-    pick-f (is_other a.s a.f) _ _ _ (search told) (rw (← c.verdict_of-v.ensures) c.by_verdict.ensures)
+    pick-f (is_other a.s.now a.f) _ _ _ (search told) (rw (← c.verdict_of.ensures) c.by_verdict.ensures)

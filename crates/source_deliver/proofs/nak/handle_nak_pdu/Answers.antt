@@ -6,4 +6,4 @@ use Rattle.source_deliver.proofs.nak.handle_nak_pdu.Goals as goal
 
 pub returns : goal.returns
 returns c = let a = c.args in
-    rw c.first_pair-at.ensures at c.handle_retransmission.ensures ∙ ap (nak_done a.s) (stops a.bytes.now a.f a.n)
+    rw c.first_pair-at.ensures at c.handle_retransmission.ensures ∙ ap (nak_done a.s.now) (stops a.bytes.now a.f a.n)

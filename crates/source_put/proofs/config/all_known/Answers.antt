@@ -1,21 +1,10 @@
--- All are known exactly if those from i on are.
-use Rattle.std.proofs.Common.{sym, refl, ◌∙◌, arith, rules}
-use borrow.Author.Tests.{not-true, not-false}
-use Rattle.basis.proofs.Pick.{told}
-use Rattle.source_put.proofs.Scan.{all_turn, all_stop, all_end}
+-- `all` asks of each what the definition asks.
+use Rattle.std.proofs.Common.{◌∙◌, rules, tests}
+use Rattle.std.proofs.lemmas.Iterator.{YieldsList-from_slice}
+use Rattle.std.proofs.lemmas.Iterator.Search.{all_from_yields_List}
+use Rattle.rules.specs.Put.{known_action}
+use Rattle.source_put.proofs.Scan.{all-known}
 use Rattle.source_put.proofs.config.all_known.Goals as goal
 
-pub loop-i-init : goal.loop-i-init
-loop-i-init c = (search rules, search rules, refl)
-
-pub returns-then-not-known_action : goal.returns-then-not-known_action
-returns-then-not-known_action c = let l = c.loop-i in
-    all_stop _ l.i (omega arith) (search (told, not-true)) ∙ sym l.invariant.2
-
-pub loop-i-preserved : goal.loop-i-preserved
-loop-i-preserved c = let l = c.loop-i in
-    (search rules, search rules, l.invariant.2 ∙ all_turn _ l.i (omega arith) (search (told, not-false)))
-
 pub returns : goal.returns
-returns c = let l = c.loop-i in
-    sym (l.invariant.2 ∙ all_end _ l.i (omega arith))
+returns c = all_from_yields_List known_action _ _ _ c.all.ensures.ran (YieldsList-from_slice c.args.actions cc) (λ x b q k. search (rules, tests)) ∙ all-known _

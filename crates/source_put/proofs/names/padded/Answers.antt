@@ -1,12 +1,9 @@
--- The copy, or zeros for a name that is too long.
+-- Behind the copy stand the zeros that are left.
 use Rattle.basis.proofs.Pick.{picks}
+use Rattle.std.proofs.lemmas.List.{drop-replicate}
 use Rattle.rules.specs.Put.{padded}
 use Rattle.source_put.proofs.names.padded.Goals as goal
 
-pub returns-then-name-gt255 : goal.returns-then-name-gt255
+pub returns-then-name-le255 : goal.returns-then-name-le255
 unfolding padded
-returns-then-name-gt255 c = search picks depth 6
-
-pub returns : goal.returns
-unfolding padded
-returns c = rw c.copied.ensures (search picks depth 6)
+returns-then-name-le255 c = rw (c.copy_from_slice.ensures.after, drop-replicate) (search picks depth 6)
