@@ -1,5 +1,6 @@
 -- Where `is_piece` says yes, the step due is a data PDU of L bytes with more to follow: accepted, without an event, and nothing moves but the request's start, the checksum of the first pass and the report.
 -- Assumes nothing.
+use Rattle.std.specs.Prelude.{Ok}
 use mathlib.Core.Path.{◌≡◌, refl}
 use mathlib.Core.Bool.{Bool, true, false, false≢true}
 use mathlib.Core.List.{List}
@@ -25,7 +26,6 @@ use Rattle.types.specs.declared.TransactionStep.TheVariants.{SendingFileData}
 use Rattle.types.specs.declared.Due.{Due}
 use Rattle.types.specs.declared.Due.TheVariants.{Repair, Data}
 use Rattle.types.specs.declared.Sending.TheVariants.{FileData}
-use Rattle.types.specs.declared.Answer.TheVariants.{Accepted}
 use Rattle.seam_rules.specs.Memory.{flag_of, step_of, head_taken, fixed_taken, marks_taken, state_of, reported}
 use Rattle.seam_rules.specs.declared.memory.Transaction.{Transaction}
 use Rattle.seam_rules.specs.declared.memory.Handler.{Handler}
@@ -188,7 +188,7 @@ module _ (h : Handler) (file : List ℕ) (x : Bool) (out : List ℕ) (e : is_pie
 
   abbrev Result : Type 0
   Result =
-      (step_outcome (state_of h) file x (length out) ≡ record { answer = Accepted; length = n; events = quiet (state_of h); state = state_of (piece_held h file n) })
+      (step_outcome (state_of h) file x (length out) ≡ record { answer = (Ok tt); length = n; events = quiet (state_of h); state = state_of (piece_held h file n) })
       × (step_bytes (state_of h) file x out ≡ in_front (piece_bytes h file) out)
 
   by-due : (d : Due) → due_of (state_of h) x ≡ d → bytes_for (state_of h) file (sending_of (state_of h) d) ≡ piece_bytes h file
@@ -272,7 +272,7 @@ piece-config h file n =
 
 pub piece-step : (h : Handler) (file : List ℕ) (x : Bool) (out : List ℕ) → is_piece h (length file) (length out) ≡ true
     → let n = length (piece_bytes h file) in
-    (step_outcome (state_of h) file x (length out) ≡ record { answer = Accepted; length = n; events = quiet (state_of h); state = state_of (piece_held h file n) })
+    (step_outcome (state_of h) file x (length out) ≡ record { answer = (Ok tt); length = n; events = quiet (state_of h); state = state_of (piece_held h file n) })
     × (step_bytes (state_of h) file x out ≡ in_front (piece_bytes h file) out)
     × ((piece_held h file n).report ≡ reported (record { length = n; events = quiet (state_of h) }))
     × ((piece_held h file n).config ≡ h.config)

@@ -1,5 +1,6 @@
 -- The loop of a burst on the memory: the steps so far and those still made from there on are all of them, and so are the bytes laid.
 -- Assumes nothing.
+use Rattle.std.specs.Prelude.{Err, Ok, Result, ⊤}
 use mathlib.Core.Path.{◌≡◌, refl, sym, ap, ap₂, subst, ◌∙◌}
 use mathlib.Core.Bool.{Bool, true, false, true≢false}
 use mathlib.Core.List.{List, [], ◌∷◌, ◌++◌, map, map-append, append_assoc, append-nil}
@@ -10,6 +11,7 @@ use lib.ListN.{length, take, drop, set, length-append, length-map, length-drop, 
 use lib.Seq.{take_at, set_at, drop-cons, take-append-add, drop-append-add, length-take-le}
 use borrow.Author.Tests.{eq-eqb, ne_eqb, eqb-true, lt-ltb}
 use Rattle.basis.specs.Pick.{pick}
+use Rattle.rules.specs.Answers.{Stepped, Bursted}
 use Rattle.rules.specs.Refusals.{answer_no}
 use Rattle.rules.specs.Step.{step_outcome, step_bytes}
 use Rattle.rules.specs.Burst.{if_made, steps_of, laid_of, burst_answer, allowed, made_of, none_made, in_places, last_of, burst_outcome, burst_bytes}
@@ -18,39 +20,20 @@ use Rattle.rules.proofs.Exactly.{numbered, step_keeps, refusal_changes_nothing}
 use Rattle.rules.proofs.Singly.{step-length}
 use Rattle.source_step.proofs.Bursting.{last_more, step_room, part-rest, put_rest}
 use borrow.Rule.Slice.PartMut.{mid_of, put_mid}
-use Rattle.basis.specs.Laid.{in_front}
-use Rattle.seam_rules.specs.Memory.{flag_of, state_of, held_of, reported, report_of, no_report}
-use Rattle.seam_rules.specs.Seam.{step_done, step_out, last_report, burst_by, burst_done, burst_out}
+use Rattle.seam_rules.specs.Memory.{flag_of, state_of, held_of, reported, no_report}
+use Rattle.seam_rules.specs.Seam.{step_done, last_report, burst_by, burst_done, burst_out}
 use Rattle.seam_rules.proofs.Laws.{memory_follows, memory_untouched, report_told, config_stays}
 use Rattle.types.specs.declared.State.{State}
-use Rattle.types.specs.declared.Stepped.{Stepped}
-use Rattle.types.specs.declared.Bursted.{Bursted}
 use Rattle.types.specs.declared.Refusal.TheVariants.{BurstTooLong}
-use Rattle.types.specs.declared.Answer.{Answer}
-use Rattle.types.specs.declared.Answer.TheVariants.{Accepted, Refused}
+use Rattle.types.specs.declared.Refusal.{Refusal}
 use Rattle.seam_rules.specs.declared.memory.Report.{Report}
 use Rattle.seam_rules.specs.declared.memory.BurstReport.{BurstReport}
 use Rattle.seam_rules.specs.declared.memory.Handler.{Handler}
-use Rattle.seam_rules.specs.declared.Done.{Done}
 use Rattle.seam.specs.Pieces.{is_piece, piece_bytes, piece_held}
 use Rattle.seam.proofs.Pieces.{piece-step}
-use Rattle.seam.specs.Running.{RanBy, RanMeets, settled, code_by, ran_done}
-use Rattle.seam.specs.declared.burst.Ran.{Ran}
-
--- ---- one step on the memory
-
-pub record Turned (u : Handler) (q : Stepped) (v : Handler) (code : ℕ) : Type 0 where
-  pub says : code ≡ answer_no q.answer
-  pub config : v.config ≡ u.config
-  pub state : state_of v ≡ q.state
-  pub report : answer_no q.answer ≡ 0 → v.report ≡ report_of q
-  pub refused : ¬ (answer_no q.answer ≡ 0) → v ≡ u
+use Rattle.seam.specs.Running.{Turned, Ran, next_flag, RanBy, RanMeets, settled, code_by, ran_done}
 
 -- ---- how far the loop is
-
--- the expiry flag of the next step: only the first reads it
-abbrev pub next_flag : ℕ → Bool → Bool
-next_flag k expired = pick (eqb k 0) expired false
 
 pub record Runs (h : Handler) (r : List Report) (file : List ℕ) (expired : Bool) (n : ℕ) (out₀ : List ℕ) (u : Handler) (steps : List Report) (k end at code : ℕ) (out : List ℕ) : Type 0 where
   pub made : List Stepped
@@ -70,7 +53,7 @@ pub record Runs (h : Handler) (r : List Report) (file : List ℕ) (expired : Boo
   pub rest : made ++ steps_of (end - k) (state_of u) file (next_flag k expired) (length out - at) ≡ steps_of n (state_of h) file expired (length out₀)
   pub lays : take at out ++ laid_of (end - k) (state_of u) file (next_flag k expired) (drop at out) ≡ laid_of n (state_of h) file expired out₀
   -- why none was made
-  pub why : end ≡ 0 → code ≡ answer_no (pick (eqb n 0) Accepted (step_outcome (state_of h) file expired (length out₀)).answer)
+  pub why : end ≡ 0 → code ≡ answer_no (pick (eqb n 0) (Ok tt) (step_outcome (state_of h) file expired (length out₀)).answer)
   -- before the first step
   pub first : k ≡ 0 → 0 < end → (at ≡ 0) × (end ≡ n) × (out ≡ out₀)
 
@@ -166,12 +149,12 @@ module _
 
   -- accepted: the step is made
   module _ (t : Turned u stepped v found) (a : found ≡ 0) where
-    took : stepped.answer ≡ Accepted
+    took : stepped.answer ≡ Ok tt
     took = go stepped.answer (sym t.says ∙ a)
       where
-        go : (b : Answer) → answer_no b ≡ 0 → b ≡ Accepted
-        go Accepted e = refl
-        go (Refused c) e = absurd (numbered c e)
+        go : (b : Result ⊤ Refusal) → answer_no b ≡ 0 → b ≡ Ok tt
+        go (Ok tt) e = refl
+        go (Err c) e = absurd (numbered c e)
 
     pub length-told : v.report.length ≡ stepped.length
     unfolding reported
@@ -223,7 +206,7 @@ module _
         all_made : z.made ++ (stepped ∷ pick (eqb stepped.length 0) [] (steps_of left stepped.state file false (length out - at - stepped.length)))
             ≡ steps_of n (state_of h) file expired (length out₀)
         all_made =
-            ap (λ (b : Answer). z.made ++ if_made b (stepped ∷ pick (eqb stepped.length 0) [] (steps_of left stepped.state file false (length out - at - stepped.length)))) (sym took)
+            ap (λ (b : Result ⊤ Refusal). z.made ++ if_made b (stepped ∷ pick (eqb stepped.length 0) [] (steps_of left stepped.state file false (length out - at - stepped.length)))) (sym took)
             ∙ ap (λ (s : List Stepped). z.made ++ s) (sym steps-here)
             ∙ z.rest
 
@@ -314,9 +297,9 @@ module _
       none_more : z.made ++ [] ≡ steps_of n (state_of h) file expired (length out₀)
       none_more = ap (λ (s : List Stepped). z.made ++ s) (sym (steps-here ∙ go stepped.answer no _)) ∙ z.rest
         where
-          go : (b : Answer) → ¬ (answer_no b ≡ 0) → (rs : List Stepped) → if_made b rs ≡ []
-          go Accepted f rs = absurd (f refl)
-          go (Refused c) f rs = refl
+          go : (b : Result ⊤ Refusal) → ¬ (answer_no b ≡ 0) → (rs : List Stepped) → if_made b rs ≡ []
+          go (Ok tt) f rs = absurd (f refl)
+          go (Err c) f rs = refl
 
       empty : stepped.length ≡ 0
       empty =
@@ -326,7 +309,7 @@ module _
       all-kept : take stepped.length written ++ pick (eqb stepped.length 0) (drop stepped.length written) (laid_of left stepped.state file false (drop stepped.length written)) ≡ written
       all-kept = rw empty refl
 
-      the-first : k ≡ 0 → found ≡ answer_no (pick (eqb n 0) Accepted (step_outcome (state_of h) file expired (length out₀)).answer)
+      the-first : k ≡ 0 → found ≡ answer_no (pick (eqb n 0) (Ok tt) (step_outcome (state_of h) file expired (length out₀)).answer)
       the-first f =
           let g = z.first f (omega (arith, f, l)) in
           let y : eqb n 0 ≡ false = ne_eqb n 0 (λ j. let i = g.1 in omega (arith, i, j, f, l)) in
@@ -334,7 +317,7 @@ module _
           t.says
           ∙ ap₂ (λ (d : Handler) (i : ℕ). answer_no (step_outcome (state_of d) file (next_flag i expired) (length out - at)).answer) (z.kept f) f
           ∙ ap (λ (i : ℕ). answer_no (step_outcome (state_of h) file expired i).answer) o
-          ∙ ap (λ (b : Bool). answer_no (pick b Accepted (step_outcome (state_of h) file expired (length out₀)).answer)) (sym y)
+          ∙ ap (λ (b : Bool). answer_no (pick b (Ok tt) (step_outcome (state_of h) file expired (length out₀)).answer)) (sym y)
 
 -- the same in the code's words: the buffer o, and the length that the report tells
 module _
@@ -372,14 +355,6 @@ module _
   again-refused a =
       subst (λ (y : List ℕ). Runs h r file expired n out₀ v steps k k at found y) (sym e) (stops h r file expired n out₀ u steps k end at code out z l v found t a)
 
--- the flag that the code passes
-pub flag-first : (k x expired : ℕ) → k ≡ 0 → x ≡ expired → flag_of x ≡ next_flag k (flag_of expired)
-flag-first k x expired e f = ap flag_of f ∙ ap (λ (b : Bool). pick b (flag_of expired) false) (sym (eq-eqb k 0 e))
-
-pub flag-later : (k x expired : ℕ) → (k ≡ 0 → ⊥) → x ≡ 0 → flag_of x ≡ next_flag k (flag_of expired)
-unfolding flag_of
-flag-later k x expired e f = ap flag_of f ∙ ap (λ (b : Bool). pick b (flag_of expired) false) (sym (ne_eqb k 0 e))
-
 -- ---- a step on the memory, by its definition or in place
 
 pub turned-step : (u : Handler) (file : List ℕ) (expired : ℕ) (room : List ℕ)
@@ -407,27 +382,14 @@ module _ (u : Handler) (file out : List ℕ) (at : ℕ) (w : at ≤ length out) 
   Gives x =
       Turned u (step_outcome (state_of u) file x (length out - at)) v found × (o ≡ take at out ++ step_bytes (state_of u) file x (drop at out))
 
-  pub gives_step : (expired : ℕ) (x : Bool) → flag_of expired ≡ x → (d : Done) → d ≡ step_done u file expired (mid_of at (length out - at) out) → v ≡ d.held → found ≡ d.code
-      → part ≡ step_out u file expired (mid_of at (length out - at) out) → Gives x
-  unfolding step_out
-  gives_step expired x i d e a b g =
+  pub gives : (expired : ℕ) (x : Bool) → flag_of expired ≡ x
+      → Turned u (step_outcome (state_of u) file (flag_of expired) (length (mid_of at (length out - at) out))) v found
+      → part ≡ step_bytes (state_of u) file (flag_of expired) (mid_of at (length out - at) out) → Gives x
+  gives expired x i t g =
       let p = part-rest at out w in
-      let l : length (mid_of at (length out - at) out) ≡ length out - at = ap length p ∙ length-drop at out in
-      let t = turned-step u file expired (mid_of at (length out - at) out) in (
-        rw (a, b, e) (rw (l, i) at t),
+      let l : length (mid_of at (length out - at) out) ≡ length out - at = ap length p ∙ length-drop at out in (
+        rw (l, i) at t,
         f ∙ put_rest at out part w ∙ ap (λ (y : List ℕ). take at out ++ y) (g ∙ ap₂ (λ (b : Bool) (y : List ℕ). step_bytes (state_of u) file b y) i p),
-      )
-
-  pub gives_piece : (x : Bool) → is_piece u (length file) (length out - at) ≡ true → (n : ℕ) → n ≡ length (piece_bytes u file) → v ≡ piece_held u file n → found ≡ 0
-      → part ≡ in_front (piece_bytes u file) (mid_of at (length out - at) out) → Gives x
-  gives_piece x q n e a b g =
-      let d = drop at out in
-      let l : length d ≡ length out - at = length-drop at out in
-      let y : is_piece u (length file) (length d) ≡ true = rw l q in
-      let t = turned-piece u file x d y in
-      let k = piece-step u file x d y in (
-        rw (a, b, e) (rw l at t),
-        f ∙ put_rest at out part w ∙ ap (λ (y : List ℕ). take at out ++ y) (g ∙ ap (in_front (piece_bytes u file)) (part-rest at out w) ∙ sym k.1),
       )
 
 -- ---- at the end
@@ -442,7 +404,7 @@ ends h r file expired n out₀ u steps k end at code out z l = (
 )
   where
     reason : ℕ
-    reason = answer_no (pick (eqb n 0) Accepted (step_outcome (state_of h) file expired (length out₀)).answer)
+    reason = answer_no (pick (eqb n 0) (Ok tt) (step_outcome (state_of h) file expired (length out₀)).answer)
 
     none : end - k ≡ 0
     none = let p = z.reached in omega arith
@@ -482,15 +444,15 @@ module _ (h : Handler) (r : BurstReport) (file : List ℕ) (expired count : ℕ)
   made-of l = take_at (map made_of l) (replicate (16 - length (map made_of l)) none_made) (length l) (length-map l made_of)
 
   -- none was made: by the answer
-  none_done : (a : Answer) (why : ℕ) → RanBy h r.steps [] why m → code_by count m.count m.code ≡ answer_no a
+  none_done : (a : Result ⊤ Refusal) (why : ℕ) → RanBy h r.steps [] why m → code_by count m.count m.code ≡ answer_no a
       → ran_done count r m ≡ burst_by h r (bursted []) a
   unfolding in_places
-  none_done Accepted why z e = rw (e, z.count, (z.none refl).0, z.steps) refl
-  none_done (Refused k) why z e = rw (e, ne_eqb (answer_no (Refused k)) 0 (numbered k), z.count, (z.none refl).0, z.steps) refl
+  none_done (Ok tt) why z e = rw (e, z.count, (z.none refl).0, z.steps) refl
+  none_done (Err k) why z e = rw (e, ne_eqb (answer_no (Err k)) 0 (numbered k), z.count, (z.none refl).0, z.steps) refl
 
   -- some were made
   some-done : (q : Stepped) (l : List Stepped) (why : ℕ) → RanBy h r.steps (q ∷ l) why m → code_by count m.count m.code ≡ 0
-      → ran_done count r m ≡ burst_by h r (bursted (q ∷ l)) Accepted
+      → ran_done count r m ≡ burst_by h r (bursted (q ∷ l)) (Ok tt)
   unfolding settled
   some-done q l why z e =
       let n : ltb 0 (suc (length l)) ≡ true = lt-ltb 0 (suc (length l)) (omega arith) in
@@ -499,25 +461,25 @@ module _ (h : Handler) (r : BurstReport) (file : List ℕ) (expired count : ℕ)
       rw (e, z.count, n, y, k, z.steps, made-of (q ∷ l)) refl
 
   -- why none was made
-  none_code : m.count ≡ 0 → m.code ≡ answer_no (pick (eqb (allowed count) 0) Accepted (step_outcome s file x (length out)).answer)
+  none_code : m.count ≡ 0 → m.code ≡ answer_no (pick (eqb (allowed count) 0) (Ok tt) (step_outcome s file x (length out)).answer)
       → code_by count m.count m.code ≡ answer_no (burst_answer s file x count (length out))
   unfolding code_by burst_answer allowed
   none_code e f = rw (e, f) (go (ltb 16 count))
     where
       go : (b : Bool)
-          → pick b 32 (answer_no (pick (eqb (pick b 0 count) 0) Accepted (step_outcome s file x (length out)).answer))
-          ≡ answer_no (pick b (Refused BurstTooLong) (pick (eqb count 0) Accepted (step_outcome s file x (length out)).answer))
+          → pick b 32 (answer_no (pick (eqb (pick b 0 count) 0) (Ok tt) (step_outcome s file x (length out)).answer))
+          ≡ answer_no (pick b (Err BurstTooLong) (pick (eqb count 0) (Ok tt) (step_outcome s file x (length out)).answer))
       go true = refl
       go false = refl
 
   -- where one was made, the burst is accepted
-  some-taken : ¬ (length rs ≡ 0) → burst_answer s file x count (length out) ≡ Accepted
+  some-taken : ¬ (length rs ≡ 0) → burst_answer s file x count (length out) ≡ Ok tt
   unfolding burst_outcome
   some-taken f = go (burst_answer s file x count (length out)) refl
     where
-      go : (a : Answer) → burst_answer s file x count (length out) ≡ a → a ≡ Accepted
-      go Accepted e = refl
-      go (Refused k) e = absurd (f (refusal_changes_nothing.burst s file x count out (rw e (numbered k))).1)
+      go : (a : Result ⊤ Refusal) → burst_answer s file x count (length out) ≡ a → a ≡ Ok tt
+      go (Ok tt) e = refl
+      go (Err k) e = absurd (f (refusal_changes_nothing.burst s file x count out (rw e (numbered k))).1)
 
   some_code : (k : ℕ) → m.count ≡ suc k → ¬ (length rs ≡ 0) → code_by count m.count m.code ≡ 0
   unfolding code_by allowed steps_of
@@ -533,7 +495,7 @@ module _ (h : Handler) (r : BurstReport) (file : List ℕ) (expired count : ℕ)
   ran_done_lem after z = (go rs refl z.0, z.1)
     where
       why : ℕ
-      why = answer_no (pick (eqb (allowed count) 0) Accepted (step_outcome s file x (length out)).answer)
+      why = answer_no (pick (eqb (allowed count) 0) (Ok tt) (step_outcome s file x (length out)).answer)
 
       go : (l : List Stepped) → rs ≡ l → RanBy h r.steps l why m → ran_done count r m ≡ burst_by h r (bursted rs) (burst_answer s file x count (length out))
       go [] e y =
@@ -542,7 +504,7 @@ module _ (h : Handler) (r : BurstReport) (file : List ℕ) (expired count : ℕ)
       go (q ∷ l) e y =
           let n : ¬ (length rs ≡ 0) = λ f. let i = ap length e in omega (arith, f, i) in
           some-done q l why y (some_code (length l) y.count n)
-          ∙ ap₂ (λ (k : List Stepped) (a : Answer). burst_by h r (bursted k) a) (sym e) (sym (some-taken n))
+          ∙ ap₂ (λ (k : List Stepped) (a : Result ⊤ Refusal). burst_by h r (bursted k) a) (sym e) (sym (some-taken n))
 
   pub ran_done-by : (i : ℕ) → i ≡ allowed count → (after : List ℕ) → RanMeets h r.steps file x i out after m
       → (ran_done count r m ≡ burst_done h r file expired count out) × (after ≡ burst_out h file expired count out)

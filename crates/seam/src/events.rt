@@ -1,134 +1,48 @@
 // What an accepted step said, as numbers.
 ghost use Rattle.std.specs.Prelude.{◌≡◌};
-ghost use Rattle.seam_rules.specs.Memory.{fault_flag, fault_action, fault_condition, fault_progress, finished_flag, finished_values, timer_no, report_of, no_report};
+ghost use Rattle.seam_rules.specs.Memory.{timer_no, reported, no_report};
 
 use seam_rules::memory::Report;
-use types::{
-    EntityId, FaultEvent, FinishedEvent, FinishedParams, Stepped, TimerEvent, TransactionSeqNum,
-};
+use types::{EntityId, Fault, FinishedParams, Made, Timer, TransactionSeqNum};
 
-fn fault_flag(f: FaultEvent) -> u8
-    ensures { result ≡ fault_flag f }
-{
-    match f {
-        FaultEvent::NoFault => 0,
-        FaultEvent::Fault {
-            action: _,
-            condition: _,
-            progress: _,
-        } => 1,
-    }
-}
-
-fn fault_action(f: FaultEvent) -> u8
-    ensures { result ≡ fault_action f }
-{
-    match f {
-        FaultEvent::NoFault => 0,
-        FaultEvent::Fault {
-            action,
-            condition: _,
-            progress: _,
-        } => action,
-    }
-}
-
-fn fault_condition(f: FaultEvent) -> u8
-    ensures { result ≡ fault_condition f }
-{
-    match f {
-        FaultEvent::NoFault => 0,
-        FaultEvent::Fault {
-            action: _,
-            condition,
-            progress: _,
-        } => condition,
-    }
-}
-
-fn fault_progress(f: FaultEvent) -> u64
-    ensures { result ≡ fault_progress f }
-{
-    match f {
-        FaultEvent::NoFault => 0,
-        FaultEvent::Fault {
-            action: _,
-            condition: _,
-            progress,
-        } => progress,
-    }
-}
-
-fn finished_flag(f: FinishedEvent) -> u8
-    ensures { result ≡ finished_flag f }
-{
-    match f {
-        FinishedEvent::NotFinished => 0,
-        FinishedEvent::Finished(_) => 1,
-    }
-}
-
-fn finished_values(f: FinishedEvent) -> FinishedParams
-    ensures { result ≡ finished_values f }
-{
-    match f {
-        FinishedEvent::NotFinished => FinishedParams {
-            condition: 0,
-            delivery: 0,
-            status: 0,
-        },
-        FinishedEvent::Finished(v) => v,
-    }
-}
-
-fn timer_no(t: TimerEvent) -> u8
+fn timer_no(t: Option<Timer>) -> u8
     ensures { result ≡ timer_no t }
 {
     match t {
-        TimerEvent::NoTimer => 0,
-        TimerEvent::AckTimer => 1,
-        TimerEvent::CheckTimer => 2,
+        None => 0,
+        Some(t) => t as u8,
     }
 }
 
-fn long(x: usize) -> u64
-    ensures { result ≡ x }
+// Of no fault the numbers are 0, and so are the values of no finished event.
+#[tactic(auto, using(crate::proofs::Numbers::fault_numbers, crate::proofs::Numbers::finished_numbers), unfolding(seam_rules::specs::Memory::reported))]
+pub fn reported(m: Made) -> Report
+    ensures { result ≡ reported m }
 {
-    x as u64
-}
-
-pub fn report_of(d: Stepped) -> Report
-    ensures { result ≡ report_of d }
-{
-    let length = long(d.length);
-    let e = d.events;
-    let f = e.fault;
-    let progress = fault_progress(f);
-    let fault = fault_flag(f);
-    let action = fault_action(f);
-    let condition = fault_condition(f);
-    let g = e.finished;
-    let finished = finished_flag(g);
-    let values = finished_values(g);
-    let k = e.timer;
-    let timer = timer_no(k);
-    let transaction = basis::fields::bit_of(e.transaction);
-    let eofsent = basis::fields::bit_of(e.eofsent);
-    let source = e.id.0;
-    let number = e.id.1;
+    let e = m.events;
+    let fault = e.fault.unwrap_or(Fault {
+        action: 0,
+        condition: 0,
+        progress: 0,
+    });
+    let values = e.finished.unwrap_or(FinishedParams {
+        condition: 0,
+        delivery: 0,
+        status: 0,
+    });
     Report {
-        length: length,
-        progress: progress,
-        source: source,
-        number: number,
-        transaction: transaction,
-        eofsent: eofsent,
-        fault: fault,
-        action: action,
-        condition: condition,
-        finished: finished,
-        values: values,
-        timer: timer,
+        length: m.length as u64,
+        progress: fault.progress,
+        source: e.id.0,
+        number: e.id.1,
+        transaction: e.transaction.into(),
+        eofsent: e.eofsent.into(),
+        fault: e.fault.is_some().into(),
+        action: fault.action,
+        condition: fault.condition,
+        finished: e.finished.is_some().into(),
+        values,
+        timer: timer_no(e.timer),
     }
 }
 

@@ -4,149 +4,112 @@ ghost use Rattle.std.specs.Prelude.{◌≡◌, true, ◌+◌, ◌≤◌, length}
 ghost use Rattle.basis.specs.Laid.{in_front};
 ghost use Rattle.seam.specs.Pieces.{request_due, serves, has_more, has_room, is_piece, piece_bytes, piece_report, advanced, piece_held};
 
-use crate::taken;
+use crate::taken::head_taken;
+use pdu_write::file_data::FileData;
 use seam_rules::memory::{Handler, Report, Transaction};
 use types::{FileParams, FinishedParams, SegmentRequest};
 
 // The request that the next step serves: the oldest, else what is left of the first pass.
-fn request_due(h: Handler) -> SegmentRequest
-    ensures { result ≡ request_due h }
+#[tactic(auto, unfolding(crate::specs::Pieces::request_due, rules::specs::Queues::oldest))]
+fn request_due(h: &Handler) -> SegmentRequest
+    ensures { result ≡ request_due h.now }
 {
     if h.queue.count > 0 {
-        let q = h.queue;
-        return q.places[0];
-    }
-    SegmentRequest {
-        start: h.file.progress,
-        end: h.transaction.size,
+        h.queue.places[0]
+    } else {
+        SegmentRequest {
+            start: h.file.progress,
+            end: h.transaction.size,
+        }
     }
 }
 
 // Whether requests are served in this state at all.
-fn serves(h: Handler) -> bool
-    ensures { result ≡ serves h }
+#[tactic(auto, unfolding(crate::specs::Pieces::serves))]
+fn serves(h: &Handler) -> bool
+    ensures { result ≡ serves h.now }
 {
-    if h.marks.owed != 0 {
-        return false;
-    }
-    if h.queue.count > 0 {
-        return true;
-    }
-    h.step == 2
+    h.marks.owed == 0 && (h.queue.count > 0 || h.step == 2)
 }
 
 // A piece of `segment` bytes of this request is not its last, and all of it is in the file.
+#[tactic(auto, unfolding(crate::specs::Pieces::has_more))]
 fn has_more(segment: u64, q: SegmentRequest, size: u64) -> bool
     ensures { result ≡ has_more segment q size }
 {
-    if size < q.end {
-        return false;
-    }
-    if q.end <= q.start {
-        return false;
-    }
-    segment < q.end - q.start
+    q.end <= size && q.start < q.end && segment < q.end - q.start
 }
 
 // Whether there is room for a PDU with `segment` bytes.
-fn has_room(t: Transaction, room: usize) -> bool
-    ensures { result ≡ has_room t room }
+fn has_room(t: &Transaction, room: usize) -> bool
+    ensures { result ≡ has_room t.now room }
 {
-    let head = taken::head_taken(t);
-    let n = pdu_write::file_data::file_data_length(head, 0);
-    if room < n {
-        return false;
-    }
-    t.segment as usize <= room - n
+    let n = pdu_write::file_data::file_data_length(head_taken(t), 0);
+    n <= room && t.segment as usize <= room - n
 }
 
-pub fn is_piece(h: Handler, lent: usize, room: usize) -> bool
-    ensures { result ≡ is_piece h lent room }
+#[tactic(auto, unfolding(crate::specs::Pieces::is_piece))]
+pub fn is_piece(h: &Handler, lent: usize, room: usize) -> bool
+    ensures { result ≡ is_piece h.now lent room }
 {
-    if !serves(h) {
-        return false;
-    }
-    if lent as u64 != h.transaction.size {
-        return false;
-    }
-    if !has_more(h.transaction.segment, request_due(h), h.transaction.size) {
-        return false;
-    }
-    has_room(h.transaction, room)
+    serves(h)
+        && lent as u64 == h.transaction.size
+        && has_more(h.transaction.segment, request_due(h), h.transaction.size)
+        && has_room(&h.transaction, room)
 }
 
 // Its PDU in front of out; its length.
-pub fn put_piece(h: Handler, file: &[u8], out: &mut [u8]) -> usize
-    requires { is_piece h (length file.now) (length out.old) ≡ true }
-    ensures value { result ≡ length (piece_bytes h file.now) }
-    ensures out_after { out.new ≡ in_front (piece_bytes h file.now) out.old }
+pub fn put_piece(h: &Handler, file: &[u8], out: &mut [u8]) -> usize
+    requires { is_piece h.now (length file.now) (length out.old) ≡ true }
+    ensures value { result ≡ length (piece_bytes h.now file.now) }
+    ensures out_after { out.new ≡ in_front (piece_bytes h.now file.now) out.old }
 {
-    let head = taken::head_taken(h.transaction);
+    let head = head_taken(&h.transaction);
     let q = request_due(h);
     let a = q.start as usize;
-    let e = a + (h.transaction.segment as usize);
-    pdu_write::file_data::put_piece(out, head, q.start, &file[a..e])
+    let e = a + h.transaction.segment as usize;
+    let body = FileData {
+        offset: q.start,
+        bytes: &file[a..e],
+    };
+    pdu_write::body::put(out, head, body)
 }
 
 // No events.
-fn piece_report(t: Transaction, n: usize) -> Report
-    ensures { result ≡ piece_report t n }
+#[tactic(auto, unfolding(crate::specs::Pieces::piece_report))]
+fn piece_report(t: &Transaction, n: usize) -> Report
+    ensures { result ≡ piece_report t.now n }
 {
-    let source = t.source;
-    let number = t.number;
     Report {
         length: n as u64,
-        progress: 0,
-        source: source,
-        number: number,
-        transaction: 0,
-        eofsent: 0,
-        fault: 0,
-        action: 0,
-        condition: 0,
-        finished: 0,
-        values: FinishedParams {
-            condition: 0,
-            delivery: 0,
-            status: 0,
-        },
-        timer: 0,
+        source: t.source,
+        number: t.number,
+        ..crate::events::no_report()
     }
 }
 
 // The first pass past a piece: only the bytes of the piece are read.
-fn advanced(t: Transaction, f: FileParams, file: &[u8]) -> FileParams
-    requires { f.progress + t.segment ≤ length file.now }
-    ensures { result ≡ advanced t file.now f }
+fn advanced(t: &Transaction, f: FileParams, file: &[u8]) -> FileParams
+    requires { f.progress + t.now.segment ≤ length file.now }
+    ensures { result ≡ advanced t.now file.now f }
 {
     let a = f.progress as usize;
-    let e = a + (t.segment as usize);
-    let sum = checksum::sum_on(t.checksum, f.sum, f.progress, &file[a..e]);
+    let e = a + t.segment as usize;
     FileParams {
         progress: f.progress + t.segment,
-        sum: sum,
+        sum: checksum::sum_on(t.checksum, f.sum, f.progress, &file[a..e]),
     }
 }
 
 // The memory after it: the request's start moves past the bytes sent.
-pub fn piece_held(h: Handler, file: &[u8], n: usize) -> Handler
-    requires { (has_more h.transaction.segment (request_due h) h.transaction.size ≡ true) × (length file.now ≡ h.transaction.size) }
-    ensures { result ≡ piece_held h file.now n }
+pub fn move_piece(h: &mut Handler, file: &[u8], n: usize)
+    requires { (has_more h.old.transaction.segment (request_due h.old) h.old.transaction.size ≡ true) × (length file.now ≡ h.old.transaction.size) }
+    ensures { h.new ≡ piece_held h.old file.now n }
 {
-    let report = piece_report(h.transaction, n);
-    let mut u = h;
-    u.report = report;
+    h.report = piece_report(&h.transaction, n);
     if h.queue.count > 0 {
-        let mut q = h.queue;
-        let p = q.places[0];
-        q.places[0] = SegmentRequest {
-            start: p.start + h.transaction.segment,
-            end: p.end,
-        };
-        u.queue = q;
+        h.queue.places[0].start += h.transaction.segment;
     } else {
-        let f = advanced(h.transaction, h.file, file);
-        u.file = f;
+        h.file = advanced(&h.transaction, h.file, file);
     }
-    u
 }

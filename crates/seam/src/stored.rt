@@ -1,93 +1,77 @@
-// The state stored in the memory, group by group.
+// The state stored in the memory, group by group: the whole, or no more than what a step or a delivery moved.
 ghost use Rattle.std.specs.Prelude.{◌≡◌};
 ghost use Rattle.rules.specs.States.{step_no};
 ghost use Rattle.seam_rules.specs.Memory.{fixed_stored, marks_stored, held_of};
+ghost use Rattle.seam.specs.Parts.{light_of, light_held};
 
-use seam_rules::memory::{Config, Handler, HeldMarks, Report, Transaction};
+use seam_rules::memory::{Handler, HeldMarks, Report, Transaction};
 use types::{Fixed, Marks, State, TransactionStep};
 
-pub fn step_no(step: TransactionStep) -> u8
+fn step_no(step: TransactionStep) -> u8
     ensures { result ≡ step_no step }
 {
-    match step {
-        TransactionStep::Idle => 0,
-        TransactionStep::SendingMetadata => 1,
-        TransactionStep::SendingFileData => 2,
-        TransactionStep::SendingEof => 3,
-        TransactionStep::WaitingForEofAck => 4,
-        TransactionStep::WaitingForFinished => 5,
-        TransactionStep::Closing => 6,
-    }
+    step as u8
 }
 
-pub fn fixed_stored(f: Fixed) -> Transaction
-    ensures { result ≡ fixed_stored f }
+#[tactic(auto, unfolding(seam_rules::specs::Memory::fixed_stored))]
+fn fixed_stored(f: &Fixed) -> Transaction
+    ensures { result ≡ fixed_stored f.now }
 {
-    let h = f.head;
-    let unacknowledged = basis::fields::bit_of(h.unacknowledged);
-    let crc = basis::fields::bit_of(h.crc);
-    let large = basis::fields::bit_of(h.large);
-    let closure = basis::fields::bit_of(f.closure);
-    let eofsent = basis::fields::bit_of(f.eofsent);
-    let finished = basis::fields::bit_of(f.finished);
-    let source = h.source;
-    let number = h.number;
-    let destination = h.destination;
-    let actions = f.actions;
     Transaction {
-        source: source,
-        number: number,
-        destination: destination,
+        source: f.head.source,
+        number: f.head.number,
+        destination: f.head.destination,
         segment: f.segment,
         size: f.size,
-        actions: actions,
-        unacknowledged: unacknowledged,
-        crc: crc,
-        large: large,
-        closure: closure,
+        actions: f.actions,
+        unacknowledged: f.head.unacknowledged.into(),
+        crc: f.head.crc.into(),
+        large: f.head.large.into(),
+        closure: f.closure.into(),
         checksum: f.checksum,
         limit: f.limit,
-        eofsent: eofsent,
-        finished: finished,
+        eofsent: f.eofsent.into(),
+        finished: f.finished.into(),
     }
 }
 
-pub fn marks_stored(m: Marks) -> HeldMarks
-    ensures { result ≡ marks_stored m }
+#[tactic(auto, unfolding(seam_rules::specs::Memory::marks_stored))]
+fn marks_stored(m: &Marks) -> HeldMarks
+    ensures { result ≡ marks_stored m.now }
 {
-    let cancelled = basis::fields::bit_of(m.cancelled);
-    let owed = basis::fields::bit_of(m.owed);
-    let finished = m.finished;
     HeldMarks {
-        cancelled: cancelled,
-        owed: owed,
+        cancelled: m.cancelled.into(),
+        owed: m.owed.into(),
         condition: m.condition,
         count: m.count,
-        finished: finished,
+        finished: m.finished,
         anomalies: m.anomalies,
     }
 }
 
-pub fn held_of(c: Config, s: State, r: Report) -> Handler
-    ensures { result ≡ held_of c s r }
+// All of it, beside the configuration, which stays.
+#[tactic(auto, unfolding(seam_rules::specs::Memory::held_of))]
+pub fn store(h: &mut Handler, s: &State, r: Report)
+    ensures { h.new ≡ held_of h.old.config s.now r }
 {
-    let k = s.step;
-    let step = step_no(k);
-    let transaction = fixed_stored(s.fixed);
-    let marks = marks_stored(s.marks);
-    let number = s.number;
-    let names = s.names;
-    let file = s.file;
-    let queue = s.queue;
-    Handler {
-        config: c,
-        number: number,
-        step: step,
-        transaction: transaction,
-        names: names,
-        file: file,
-        queue: queue,
-        marks: marks,
-        report: r,
-    }
+    h.number = s.number;
+    h.step = step_no(s.step);
+    h.transaction = fixed_stored(&s.fixed);
+    h.names = s.names;
+    h.file = s.file;
+    h.queue = s.queue;
+    h.marks = marks_stored(&s.marks);
+    h.report = r;
+}
+
+// Where the names and the queue, most of a handler's bytes, stay as they are, and so do the next put's number and what the put fixed, f.
+#[tactic(auto, unfolding(crate::specs::Parts::light_of, crate::specs::Parts::light_held))]
+pub(crate) fn store_light(h: &mut Handler, f: &Fixed, s: &State, r: Report)
+    ensures { h.new ≡ light_held h.old (light_of f.now s.now r) }
+{
+    h.step = step_no(s.step);
+    h.transaction = fixed_stored(f);
+    h.file = s.file;
+    h.marks = marks_stored(&s.marks);
+    h.report = r;
 }

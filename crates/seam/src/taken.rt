@@ -4,37 +4,36 @@ ghost use Rattle.seam_rules.specs.Memory.{flag_of, remote_of, config_of, step_of
 
 use seam_rules::memory::{Config, Handler, HeldMarks, Remote, Transaction};
 use types::{
-    Choice, EntityId, Fixed, Head, LocalEntityConfig, Marks, PutRequest, RemoteEntityConfig, State,
+    EntityId, Fixed, Head, LocalEntityConfig, Marks, PutRequest, RemoteEntityConfig, State,
     TransactionStep,
 };
 
+#[tactic(auto, using(std::proofs::lemmas::Bool::Decides::nat_tests), unfolding(seam_rules::specs::Memory::flag_of))]
 pub fn flag_of(x: u8) -> bool
     ensures { result ≡ flag_of x }
 {
     x != 0
 }
 
+#[tactic(auto, unfolding(seam_rules::specs::Memory::remote_of))]
 fn remote_of(r: Remote) -> RemoteEntityConfig
     ensures { result ≡ remote_of r }
 {
-    let crc = flag_of(r.crc);
-    let unacknowledged = flag_of(r.unacknowledged);
-    let closure = flag_of(r.closure);
-    let id = r.id;
     RemoteEntityConfig {
-        id: id,
+        id: r.id,
         maxpacket: r.maxpacket,
         maxsegment: r.maxsegment,
         checksum: r.checksum,
-        crc: crc,
-        unacknowledged: unacknowledged,
-        closure: closure,
+        crc: flag_of(r.crc),
+        unacknowledged: flag_of(r.unacknowledged),
+        closure: flag_of(r.closure),
         limit: r.limit,
     }
 }
 
-fn remotes_of(rs: [Remote; 8]) -> [RemoteEntityConfig; 8]
-    ensures { result ≡ map remote_of rs }
+// Stays: of the array's own `map` the library says which calls it makes, and the proof that these give the definition's list did not close.
+fn remotes_of(rs: &[Remote; 8]) -> [RemoteEntityConfig; 8]
+    ensures { result ≡ map remote_of rs.now }
 {
     [
         remote_of(rs[0]),
@@ -48,147 +47,114 @@ fn remotes_of(rs: [Remote; 8]) -> [RemoteEntityConfig; 8]
     ]
 }
 
-pub fn config_of(c: Config) -> LocalEntityConfig
-    ensures { result ≡ config_of c }
+#[tactic(auto, unfolding(seam_rules::specs::Memory::config_of))]
+pub fn config_of(c: &Config) -> LocalEntityConfig
+    ensures { result ≡ config_of c.now }
 {
-    let rs = c.remotes;
-    let remotes = remotes_of(rs);
-    let eofsent = flag_of(c.eofsent);
-    let finished = flag_of(c.finished);
-    let id = c.id;
-    let actions = c.actions;
     LocalEntityConfig {
-        id: id,
-        actions: actions,
-        eofsent: eofsent,
-        finished: finished,
-        remotes: remotes,
+        id: c.id,
+        actions: c.actions,
+        eofsent: flag_of(c.eofsent),
+        finished: flag_of(c.finished),
+        remotes: remotes_of(&c.remotes),
         count: c.count,
     }
 }
 
+// Any number that is none of a step's is Idle.
+#[tactic(auto, using(std::proofs::lemmas::Bool::Decides::nat_tests), unfolding(seam_rules::specs::Memory::step_of))]
 fn step_of(n: u8) -> TransactionStep
     ensures { result ≡ step_of n }
 {
-    if n == 1 {
-        return TransactionStep::SendingMetadata;
+    match n {
+        1 => TransactionStep::SendingMetadata,
+        2 => TransactionStep::SendingFileData,
+        3 => TransactionStep::SendingEof,
+        4 => TransactionStep::WaitingForEofAck,
+        5 => TransactionStep::WaitingForFinished,
+        6 => TransactionStep::Closing,
+        _ => TransactionStep::Idle,
     }
-    if n == 2 {
-        return TransactionStep::SendingFileData;
-    }
-    if n == 3 {
-        return TransactionStep::SendingEof;
-    }
-    if n == 4 {
-        return TransactionStep::WaitingForEofAck;
-    }
-    if n == 5 {
-        return TransactionStep::WaitingForFinished;
-    }
-    if n == 6 {
-        return TransactionStep::Closing;
-    }
-    TransactionStep::Idle
 }
 
-pub fn head_taken(t: Transaction) -> Head
-    ensures { result ≡ head_taken t }
+#[tactic(auto, unfolding(seam_rules::specs::Memory::head_taken))]
+pub fn head_taken(t: &Transaction) -> Head
+    ensures { result ≡ head_taken t.now }
 {
-    let unacknowledged = flag_of(t.unacknowledged);
-    let crc = flag_of(t.crc);
-    let large = flag_of(t.large);
-    let source = t.source;
-    let number = t.number;
-    let destination = t.destination;
     Head {
-        unacknowledged: unacknowledged,
-        crc: crc,
-        large: large,
-        source: source,
-        number: number,
-        destination: destination,
+        unacknowledged: flag_of(t.unacknowledged),
+        crc: flag_of(t.crc),
+        large: flag_of(t.large),
+        source: t.source,
+        number: t.number,
+        destination: t.destination,
     }
 }
 
-fn fixed_taken(t: Transaction) -> Fixed
-    ensures { result ≡ fixed_taken t }
+#[tactic(auto, unfolding(seam_rules::specs::Memory::fixed_taken))]
+fn fixed_taken(t: &Transaction) -> Fixed
+    ensures { result ≡ fixed_taken t.now }
 {
-    let head = head_taken(t);
-    let closure = flag_of(t.closure);
-    let eofsent = flag_of(t.eofsent);
-    let finished = flag_of(t.finished);
-    let actions = t.actions;
     Fixed {
-        head: head,
-        closure: closure,
+        head: head_taken(t),
+        closure: flag_of(t.closure),
         checksum: t.checksum,
         segment: t.segment,
         size: t.size,
         limit: t.limit,
-        actions: actions,
-        eofsent: eofsent,
-        finished: finished,
+        actions: t.actions,
+        eofsent: flag_of(t.eofsent),
+        finished: flag_of(t.finished),
     }
 }
 
-fn marks_taken(m: HeldMarks) -> Marks
-    ensures { result ≡ marks_taken m }
+#[tactic(auto, unfolding(seam_rules::specs::Memory::marks_taken))]
+fn marks_taken(m: &HeldMarks) -> Marks
+    ensures { result ≡ marks_taken m.now }
 {
-    let cancelled = flag_of(m.cancelled);
-    let owed = flag_of(m.owed);
-    let finished = m.finished;
     Marks {
-        cancelled: cancelled,
-        owed: owed,
+        cancelled: flag_of(m.cancelled),
+        owed: flag_of(m.owed),
         condition: m.condition,
         count: m.count,
-        finished: finished,
+        finished: m.finished,
         anomalies: m.anomalies,
     }
 }
 
-pub fn state_of(h: Handler) -> State
-    ensures { result ≡ state_of h }
+#[tactic(auto, unfolding(seam_rules::specs::Memory::state_of))]
+pub fn state_of(h: &Handler) -> State
+    ensures { result ≡ state_of h.now }
 {
-    let step = step_of(h.step);
-    let fixed = fixed_taken(h.transaction);
-    let marks = marks_taken(h.marks);
-    let number = h.number;
-    let names = h.names;
-    let file = h.file;
-    let queue = h.queue;
     State {
-        number: number,
-        step: step,
-        fixed: fixed,
-        names: names,
-        file: file,
-        queue: queue,
-        marks: marks,
+        number: h.number,
+        step: step_of(h.step),
+        fixed: fixed_taken(&h.transaction),
+        names: h.names,
+        file: h.file,
+        queue: h.queue,
+        marks: marks_taken(&h.marks),
     }
 }
 
 // 0: no; 1: yes; any other: as the table's entry says.
-fn choice_of(x: u8) -> Choice
+#[tactic(auto, using(std::proofs::lemmas::Bool::Decides::nat_tests), unfolding(seam_rules::specs::Memory::choice_of))]
+fn choice_of(x: u8) -> Option<bool>
     ensures { result ≡ choice_of x }
 {
-    if x == 0 {
-        return Choice::Given(false);
+    match x {
+        0 => Some(false),
+        1 => Some(true),
+        _ => None,
     }
-    if x == 1 {
-        return Choice::Given(true);
-    }
-    Choice::Default
 }
 
 pub fn request_of(width: u8, entity: u64, unacknowledged: u8, closure: u8) -> PutRequest
     ensures { result ≡ request_of width entity unacknowledged closure }
 {
-    let u = choice_of(unacknowledged);
-    let c = choice_of(closure);
     PutRequest {
         destination: EntityId(width, entity),
-        unacknowledged: u,
-        closure: c,
+        unacknowledged: choice_of(unacknowledged),
+        closure: choice_of(closure),
     }
 }

@@ -5,14 +5,10 @@ use Rattle.basis.proofs.Pick.{picks}
 use Rattle.seam.specs.Pieces.{bare_length, has_room}
 use Rattle.seam.proofs.piece.has_room.Goals as goal
 
-pub returns-then-room-n : goal.returns-then-room-n
+pub returns-then-n-room : goal.returns-then-n-room
 unfolding has_room bare_length
-returns-then-room-n c = let f = c.file_data_length-n in
-    let k = c.head_taken-head in
-    rw (← k.ensures, ← (f.ensures.by_index 0 [] refl)) (search picks depth 8)
+returns-then-n-room c = rw (← c.head_taken.ensures, ← (c.file_data_length-n.ensures.by_index 0 [] refl)) (search picks depth 8)
 
-pub returns : goal.returns
+pub returns-else-n-room : goal.returns-else-n-room
 unfolding has_room bare_length
-returns c = let f = c.file_data_length-n in
-    let k = c.head_taken-head in
-    rw (← k.ensures, ← (f.ensures.by_index 0 [] refl)) (search picks depth 8)
+returns-else-n-room c = rw (← c.head_taken.ensures, ← (c.file_data_length-n.ensures.by_index 0 [] refl)) (search picks depth 8)

@@ -12,18 +12,14 @@ none =
 
 pub returns : goal.returns
 returns c =
-    let e = c in
-    let d = e in
-    let b = d in
-    let s = b in
     rw (
-      b.remote_of.ensures,
-      b.remote_of-2.ensures,
-      d.remote_of-3.ensures,
-      d.remote_of-4.ensures,
-      e.remote_of-5.ensures,
-      e.remote_of-6.ensures,
+      c.remote_of.ensures,
+      c.remote_of-2.ensures,
+      c.remote_of-3.ensures,
+      c.remote_of-4.ensures,
+      c.remote_of-5.ensures,
+      c.remote_of-6.ensures,
       c.remote_of-7.ensures,
       c.remote_of-8.ensures,
     )
-    (eight remote_of s.args.rs none (search rules))
+    (eight remote_of c.args.rs.now none (search rules))
