@@ -2,20 +2,16 @@
 // as docs/HOST.md has it. Input of more than 65,536 bytes is cut there.
 #![tactic(auto)]
 
-use pdu_read::field::part_of;
 use std::io;
+use stream::Stream;
 
 fn main(rt: HostRuntime) -> io::Result<()> {
-    let mut input = [0u8; 65536];
-    let n = intake::read_full(&mut rt.stdin(), &mut input)?;
+    // Stays: a fixed buffer, since of a longer input the first 65,536 bytes count.
+    let mut buf = [0u8; 65536];
+    let n = intake::read_full(&mut rt.stdin(), &mut buf)?;
+    let mut input = Stream(&buf[..n]);
+    let file = input.blob(4);
     let mut answers = [0u8; 65536];
-    let k = driven(&input[..n], &mut answers);
-    rt.write_all(part_of(&answers, 0, k))
-}
-
-fn driven(input: &[u8], answers: &mut [u8]) -> usize {
-    let n = (basis::fields::num_at(input, 0, 4) % 4294967296) as usize;
-    let file = part_of(input, 4, n);
-    let calls = part_of(input, 4 + n, input.len());
-    host::tsendrivaty_run(calls, file, answers) as usize
+    let k = host::tsendrivaty_run(input.0, file, &mut answers) as usize;
+    rt.write_all(&answers[..k.min(answers.len())])
 }

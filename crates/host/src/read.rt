@@ -1,117 +1,119 @@
-// The list of calls taken apart. Past its end everything is zero: `run` tests first that a record is whole.
-use pdu_read::field::byte_at;
-use types::{
-    Choice, EntityId, LocalEntityConfig, PutRequest, RemoteEntityConfig, TransactionSeqNum,
-};
+// The list of calls taken apart from the front. A call that is not whole is cut.
+use crate::stop::Stop;
+use std::array;
+use types::{EntityId, LocalEntityConfig, PutRequest, RemoteEntityConfig, TransactionSeqNum};
 
-// A place n bytes further, both below 2^48; a place as far as that is past every end.
-pub fn on(at: usize, n: usize) -> usize {
-    if at > 281474976710656 {
-        return at;
+// What is left of the list.
+#[derive(Clone, Copy)]
+pub struct Calls<'a>(pub &'a [u8]);
+
+impl<'a> Calls<'a> {
+    pub fn len(&self) -> usize {
+        self.0.len()
     }
-    if n > 281474976710656 {
-        return 281474976710657;
+
+    // The kind of the next call, if there is one.
+    pub fn kind(&mut self) -> Option<u8> {
+        self.0.split_off_first().copied()
     }
-    at + n
-}
 
-// Whether n bytes stand from a place on.
-pub fn whole(s: &[u8], at: usize, n: usize) -> bool {
-    if at > s.len() {
-        return false;
+    fn bytes<const N: usize>(&mut self) -> Result<[u8; N], Stop> {
+        let (bytes, rest) = self.0.split_first_chunk::<N>().ok_or(Stop::Cut)?;
+        self.0 = rest;
+        Ok(*bytes)
     }
-    n <= s.len() - at
-}
 
-// A length in w bytes.
-pub fn length(s: &[u8], at: usize, w: usize) -> usize {
-    (basis::fields::num_at(s, at, w) % 4294967296) as usize
-}
-
-fn bit(b: u8, divisor: u8) -> bool {
-    if divisor == 0 {
-        return false;
+    fn run(&mut self, n: usize) -> Result<&'a [u8], Stop> {
+        self.0.split_off(..n).ok_or(Stop::Cut)
     }
-    b / divisor % 2 == 1
-}
 
-// An id or a number: width, then eight bytes of value.
-pub fn entity(s: &[u8], at: usize) -> EntityId {
-    EntityId(byte_at(s, at), basis::fields::num_at(s, on(at, 1), 8))
-}
-
-pub fn number(s: &[u8], at: usize) -> TransactionSeqNum {
-    TransactionSeqNum(byte_at(s, at), basis::fields::num_at(s, on(at, 1), 8))
-}
-
-// 28 bytes.
-fn entry(s: &[u8], at: usize) -> RemoteEntityConfig {
-    let flags = byte_at(s, on(at, 26));
-    RemoteEntityConfig {
-        id: entity(s, at),
-        maxpacket: basis::fields::num_at(s, on(at, 9), 8),
-        maxsegment: basis::fields::num_at(s, on(at, 17), 8),
-        checksum: byte_at(s, on(at, 25)),
-        crc: bit(flags, 1),
-        unacknowledged: bit(flags, 2),
-        closure: bit(flags, 4),
-        limit: byte_at(s, on(at, 27)),
+    pub fn byte(&mut self) -> Result<u8, Stop> {
+        self.kind().ok_or(Stop::Cut)
     }
-}
 
-fn remotes(s: &[u8], at: usize) -> [RemoteEntityConfig; 8] {
-    [
-        entry(s, at),
-        entry(s, on(at, 28)),
-        entry(s, on(at, 56)),
-        entry(s, on(at, 84)),
-        entry(s, on(at, 112)),
-        entry(s, on(at, 140)),
-        entry(s, on(at, 168)),
-        entry(s, on(at, 196)),
-    ]
-}
-
-fn actions(s: &[u8], at: usize) -> [u8; 16] {
-    let mut a = [0u8; 16];
-    let mut i = 0;
-    while i < 16 {
-        a[i] = byte_at(s, on(at, i));
-        i += 1;
+    // A number in eight bytes.
+    pub fn long(&mut self) -> Result<u64, Stop> {
+        Ok(u64::from_be_bytes(self.bytes()?))
     }
-    a
-}
 
-// 251 bytes: local id 9, actions 16, event flags 1, count 1, eight entries.
-pub fn config(s: &[u8], at: usize) -> LocalEntityConfig {
-    let flags = byte_at(s, on(at, 25));
-    let a = actions(s, on(at, 9));
-    let r = remotes(s, on(at, 27));
-    LocalEntityConfig {
-        id: entity(s, at),
-        actions: a,
-        eofsent: bit(flags, 1),
-        finished: bit(flags, 2),
-        remotes: r,
-        count: byte_at(s, on(at, 26)) as usize,
+    // A length or a place in four bytes.
+    pub fn length(&mut self) -> Result<usize, Stop> {
+        Ok(u32::from_be_bytes(self.bytes()?) as usize)
     }
-}
 
-// 0: not given; 1: no; any other: yes.
-fn choice(b: u8) -> Choice {
-    if b == 0 {
-        return Choice::Default;
+    // A name behind two bytes of length.
+    pub fn name(&mut self) -> Result<&'a [u8], Stop> {
+        let n = u16::from_be_bytes(self.bytes()?);
+        self.run(usize::from(n))
     }
-    Choice::Given(b != 1)
-}
 
-// 11 bytes: destination, mode, closure.
-pub fn request(s: &[u8], at: usize) -> PutRequest {
-    let mode = choice(byte_at(s, on(at, 9)));
-    let closure = choice(byte_at(s, on(at, 10)));
-    PutRequest {
-        destination: entity(s, at),
-        unacknowledged: mode,
-        closure: closure,
+    // A delivery behind four bytes of length.
+    pub fn delivery(&mut self) -> Result<&'a [u8], Stop> {
+        let n = self.length()?;
+        self.run(n)
+    }
+
+    // An id or a number: width, then eight bytes of value.
+    pub fn entity(&mut self) -> Result<EntityId, Stop> {
+        Ok(EntityId(self.byte()?, self.long()?))
+    }
+
+    pub fn number(&mut self) -> Result<TransactionSeqNum, Stop> {
+        Ok(TransactionSeqNum(self.byte()?, self.long()?))
+    }
+
+    // 28 bytes.
+    fn entry(&mut self) -> Result<RemoteEntityConfig, Stop> {
+        let id = self.entity()?;
+        let maxpacket = self.long()?;
+        let maxsegment = self.long()?;
+        let checksum = self.byte()?;
+        let flags = self.byte()?;
+        let limit = self.byte()?;
+        Ok(RemoteEntityConfig {
+            id,
+            maxpacket,
+            maxsegment,
+            checksum,
+            crc: flags & 1 != 0,
+            unacknowledged: flags & 2 != 0,
+            closure: flags & 4 != 0,
+            limit,
+        })
+    }
+
+    // 251 bytes: local id 9, actions 16, event flags 1, count 1, eight entries.
+    pub fn config(&mut self) -> Result<LocalEntityConfig, Stop> {
+        let id = self.entity()?;
+        let actions = self.bytes()?;
+        let flags = self.byte()?;
+        let count = self.byte()?;
+        let remotes = array::try_from_fn(|_| self.entry())?;
+        Ok(LocalEntityConfig {
+            id,
+            actions,
+            eofsent: flags & 1 != 0,
+            finished: flags & 2 != 0,
+            remotes,
+            count: usize::from(count),
+        })
+    }
+
+    // 0: not given; 1: no; any other: yes.
+    fn choice(&mut self) -> Result<Option<bool>, Stop> {
+        let b = self.byte()?;
+        if b == 0 {
+            return Ok(None);
+        }
+        Ok(Some(b != 1))
+    }
+
+    // 11 bytes: destination, mode, closure.
+    pub fn request(&mut self) -> Result<PutRequest, Stop> {
+        Ok(PutRequest {
+            destination: self.entity()?,
+            unacknowledged: self.choice()?,
+            closure: self.choice()?,
+        })
     }
 }

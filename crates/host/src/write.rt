@@ -1,149 +1,102 @@
 // The answers written, each field only where it fits; `run` keeps room for the whole record.
 ghost use Rattle.std.specs.Prelude.{◌≤◌};
 
-use crate::read::on;
-use pdu_read::field::part_of;
-use types::{Events, FaultEvent, FinishedEvent, Made, TimerEvent, TransactionId};
+use crate::kind::{ACK_TIMER, CHECK_TIMER, EOF_SENT, FAULT, FINISHED, TRANSACTION};
+use types::{Events, Made, Timer, TransactionId};
 
-// A number in w bytes.
-pub fn add(out: &mut [u8], at: usize, w: usize, v: u64) -> usize {
-    if at > out.len() {
-        return at;
-    }
-    if out.len() - at < w {
-        return at;
-    }
-    basis::fields::put_be(out, at, w, v)
+// The room that is left for answers, of the room that there was.
+#[derive(Drop)]
+pub struct Answers<'a> {
+    rest: &'a mut [u8],
+    size: usize,
 }
 
-pub fn add_bytes(out: &mut [u8], at: usize, s: &[u8]) -> usize {
-    if at > out.len() {
-        return at;
-    }
-    if out.len() - at < s.len() {
-        return at;
-    }
-    basis::fields::put_bytes(out, at, s)
-}
-
-fn flag(b: bool, v: u64) -> u64
+fn flag(b: bool, v: u8) -> u8
     ensures { result ≤ v }
 {
     if b { v } else { 0 }
 }
 
-fn fault_bit(f: FaultEvent) -> u64
-    ensures { result ≤ 4 }
-{
-    match f {
-        FaultEvent::NoFault => 0,
-        FaultEvent::Fault {
-            action: _,
-            condition: _,
-            progress: _,
-        } => 4,
-    }
-}
-
-fn finished_bit(f: FinishedEvent) -> u64
-    ensures { result ≤ 8 }
-{
-    match f {
-        FinishedEvent::NotFinished => 0,
-        FinishedEvent::Finished(_) => 8,
-    }
-}
-
-fn timer_bits(t: TimerEvent) -> u64
+fn timer_bits(t: Option<Timer>) -> u8
     ensures { result ≤ 32 }
 {
     match t {
-        TimerEvent::NoTimer => 0,
-        TimerEvent::AckTimer => 16,
-        TimerEvent::CheckTimer => 32,
+        None => 0,
+        Some(Timer::Ack) => ACK_TIMER,
+        Some(Timer::Check) => CHECK_TIMER,
     }
 }
 
-fn add_fault(out: &mut [u8], at: usize, f: FaultEvent) -> usize {
-    match f {
-        FaultEvent::NoFault => at,
-        FaultEvent::Fault {
-            action,
-            condition,
-            progress,
-        } => {
-            let p = add(out, at, 1, basis::fields::wide(action));
-            let q = add(out, p, 1, basis::fields::wide(condition));
-            add(out, q, 8, progress)
+fn event_bits(e: Events) -> u8 {
+    flag(e.transaction, TRANSACTION)
+        | flag(e.eofsent, EOF_SENT)
+        | flag(e.fault.is_some(), FAULT)
+        | flag(e.finished.is_some(), FINISHED)
+        | timer_bits(e.timer)
+}
+
+impl<'a> Answers<'a> {
+    pub fn new(out: &'a mut [u8]) -> Self {
+        let size = out.len();
+        Answers { rest: out, size }
+    }
+
+    pub fn room(&self) -> usize {
+        self.rest.len()
+    }
+
+    pub fn written(&self) -> usize {
+        self.size.saturating_sub(self.rest.len())
+    }
+
+    pub fn add(&mut self, s: &[u8]) {
+        if let Some(part) = self.rest.split_off_mut(..s.len()) {
+            part.copy_from_slice(s);
         }
     }
-}
 
-fn add_finished(out: &mut [u8], at: usize, f: FinishedEvent) -> usize {
-    match f {
-        FinishedEvent::NotFinished => at,
-        FinishedEvent::Finished(v) => {
-            let p = add(out, at, 1, basis::fields::wide(v.condition));
-            let q = add(out, p, 1, basis::fields::wide(v.delivery));
-            add(out, q, 1, basis::fields::wide(v.status))
+    fn add_id(&mut self, TransactionId(source, number): TransactionId) {
+        self.add(&[source.0]);
+        self.add(&source.1.to_be_bytes());
+        self.add(&[number.0]);
+        self.add(&number.1.to_be_bytes());
+    }
+
+    // The set of events in a byte; where there are any, the transaction, and what fault and finished carry.
+    fn add_events(&mut self, e: Events) {
+        let bits = event_bits(e);
+        self.add(&[bits]);
+        if bits != 0 {
+            self.add_id(e.id);
+            if let Some(f) = e.fault {
+                self.add(&[f.action, f.condition]);
+                self.add(&f.progress.to_be_bytes());
+            }
+            if let Some(f) = e.finished {
+                self.add(&[f.condition, f.delivery, f.status]);
+            }
         }
     }
-}
 
-// The set of events in a byte; where there are any, the transaction, and what fault and finished carry.
-pub fn add_events(out: &mut [u8], at: usize, e: Events) -> usize {
-    let fault = e.fault;
-    let finished = e.finished;
-    let timer = e.timer;
-    let first = flag(e.transaction, 1) + flag(e.eofsent, 2) + fault_bit(fault);
-    let bits = first + finished_bit(finished) + timer_bits(timer);
-    let p = add(out, at, 1, bits);
-    if bits == 0 {
-        return p;
+    // What a step made that was refused: no PDU and no event.
+    pub fn add_nothing(&mut self) {
+        self.add(&[0, 0, 0]);
     }
-    let id = e.id;
-    let q = add_id(out, p, id);
-    let r = add_fault(out, q, fault);
-    add_finished(out, r, finished)
-}
 
-fn add_id(out: &mut [u8], at: usize, id: TransactionId) -> usize {
-    let source = id.0;
-    let number = id.1;
-    let p = add(out, at, 1, basis::fields::wide(source.0));
-    let q = add(out, p, 8, source.1);
-    let r = add(out, q, 1, basis::fields::wide(number.0));
-    add(out, r, 8, number.1)
-}
+    // What a step made: the PDU's length in two bytes, the PDU, the events. Answers what is left of the space behind the PDU.
+    pub fn add_made<'s>(&mut self, m: Made, space: &'s [u8]) -> &'s [u8] {
+        let (pdu, rest) = space.split_at(m.length.min(space.len()));
+        self.add(&m.length.to_be_bytes()[6..]);
+        self.add(pdu);
+        self.add_events(m.events);
+        rest
+    }
 
-// What a step made: the PDU's length, the PDU, the events.
-pub fn add_made(out: &mut [u8], at: usize, n: usize, e: Events, pdu: &[u8]) -> usize {
-    let p = add(out, at, 2, n as u64);
-    let q = add_bytes(out, p, pdu);
-    add_events(out, q, e)
-}
-
-// What the steps of a burst made, whose PDUs lie end to end in `space`.
-pub fn add_steps(
-    out: &mut [u8],
-    at: usize,
-    steps: [Made; 16],
-    count: usize,
-    space: &[u8],
-) -> usize {
-    let mut p = at;
-    let mut from = 0;
-    let mut k = 0;
-    while k < 16 {
-        if k >= count {
-            break;
+    // What the steps of a burst made, whose PDUs lie end to end in `space`.
+    pub fn add_steps(&mut self, steps: &[Made], space: &[u8]) {
+        let mut rest = space;
+        for m in steps {
+            rest = self.add_made(*m, rest);
         }
-        let m = steps[k];
-        let n = m.length;
-        let e = m.events;
-        p = add_made(out, p, n, e, part_of(space, from, n));
-        from = on(from, n);
-        k += 1;
     }
-    p
 }

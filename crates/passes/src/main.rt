@@ -5,6 +5,7 @@
 use std::io;
 
 fn main(rt: HostRuntime) -> io::Result<()> {
+    // Stays: a fixed buffer, since of a longer input the first 65,536 bytes count.
     let mut buf = [0u8; 65536];
     let n = intake::read_full(&mut rt.stdin(), &mut buf)?;
     replay::all(&rt, &buf[..n], replay::Ids::Tagged)

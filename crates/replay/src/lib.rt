@@ -2,11 +2,11 @@
 // programs `passes` and `beside_rust`, which differ in where the runs and what must be printed come from.
 #![tactic(auto)]
 
+mod coded;
 mod say;
-mod take;
 
-use pdu_read::field::part_of;
 use std::io;
+use stream::Stream;
 
 // How an event tells the source id and number: with their widths, or as the Rust does, and then a delivery's number is not told either.
 #[derive(Clone, Copy)]
@@ -16,29 +16,26 @@ pub enum Ids {
 }
 
 fn one(rt: &impl Print, file: &[u8], coded: &[u8], ids: Ids) -> io::Result<()> {
+    // Stays: fixed buffers, which `host` reads and writes; of a longer list only what has room is made.
     let mut calls = [0u8; 65536];
-    let n = take::spread(coded, &mut calls);
+    let n = coded::spread(coded, &mut calls).min(calls.len());
     let mut answers = [0u8; 65536];
-    let m = host::tsendrivaty_run(part_of(&calls, 0, n), file, &mut answers);
-    say::lines(rt, part_of(&answers, 0, (m % 4294967296) as usize), ids)
+    let m = host::tsendrivaty_run(&calls[..n], file, &mut answers) as usize;
+    say::lines(rt, &answers[..m.min(answers.len())], ids)
 }
 
 // A run is a label behind one byte of length, a file and a list behind four each.
 pub fn all(rt: &impl Print, s: &[u8], ids: Ids) -> io::Result<()> {
-    let mut at = 0;
-    let mut k: u64 = 0;
-    while k < 65536 {
-        if at >= s.len() {
-            break;
-        }
-        let file = take::past(s, at, 1);
-        let list = take::past(s, file, 4);
-        rt.write_all(take::blob(s, at, 1))?;
-        rt.write_all(b"\n")?;
-        one(rt, take::blob(s, file, 4), take::blob(s, list, 4), ids)?;
-        at = take::past(s, list, 4);
-        k += 1;
+    let mut runs = Stream(s);
+    let mut count: u64 = 0;
+    while !runs.is_empty() {
+        let label = runs.blob(1);
+        let file = runs.blob(4);
+        let list = runs.blob(4);
+        rt.write_all(label)?;
+        println!(rt; "")?;
+        one(rt, file, list, ids)?;
+        count = count.saturating_add(1);
     }
-    rt.print(k)?;
-    rt.write_all(b" runs\n")
+    println!(rt; "{count} runs")
 }

@@ -1,206 +1,150 @@
-// One line for each answer of the handler, and one more for each step of a burst; docs/HOST.md has the format of the answers. A line function answers where the next record begins.
+// One line for each answer of the handler, and one more for each step of a burst; docs/HOST.md has the format of the answers.
 use crate::Ids;
-use crate::take::{length, on};
-use pdu_read::field::{byte_at, part_of};
+use host::kind::{
+    ACK_TIMER, CHECK_TIMER, END, EOF_SENT, FAULT, FINISHED, Kind, TRANSACTION, UnknownKind,
+};
 use std::io;
+use stream::Stream;
 
-fn number(rt: &impl Print, s: &[u8], at: usize, w: usize) -> io::Result<()> {
-    rt.write_all(b" ")?;
-    rt.print(basis::fields::num_at(s, at, w))
+// Where lines are printed, what is left of the answers, and how events tell the source id and number.
+#[derive(Drop)]
+struct Say<'a, R: Print> {
+    rt: &'a R,
+    answers: Stream<'a>,
+    ids: Ids,
 }
 
-// An id or a number: width, colon, value.
-fn tagged(rt: &impl Print, s: &[u8], at: usize) -> io::Result<()> {
-    number(rt, s, at, 1)?;
-    rt.write_all(b":")?;
-    rt.print(basis::fields::num_at(s, on(at, 1), 8))
-}
-
-fn hex(rt: &impl Print, s: &[u8]) -> io::Result<()> {
-    let mut i = 0;
-    while i < s.len() {
-        let b = s[i];
-        print!(rt; "{b:02x}")?;
-        i += 1;
+impl<R: Print> Say<'_, R> {
+    fn refusal(&mut self, name: &str) -> io::Result<()> {
+        let no = self.answers.byte();
+        println!(self.rt; "  {name} {no}")
     }
-    Ok(())
-}
 
-// How many of the delivered bytes are the PDU's; the Rust tells none.
-fn belonging(rt: &impl Print, s: &[u8], at: usize, ids: Ids) -> io::Result<()> {
-    match ids {
-        Ids::Tagged => number(rt, s, at, 4),
-        Ids::ByValue => Ok(()),
-    }
-}
-
-fn delivered(rt: &impl Print, s: &[u8], at: usize, ids: Ids) -> io::Result<usize> {
-    rt.write_all(b"  deliver")?;
-    number(rt, s, at, 1)?;
-    belonging(rt, s, on(at, 1), ids)?;
-    rt.write_all(b"\n")?;
-    Ok(on(at, 5))
-}
-
-fn refusal(rt: &impl Print, name: &[u8], s: &[u8], at: usize) -> io::Result<usize> {
-    rt.write_all(name)?;
-    number(rt, s, at, 1)?;
-    rt.write_all(b"\n")?;
-    Ok(on(at, 1))
-}
-
-fn cancelled(rt: &impl Print, s: &[u8], at: usize) -> io::Result<usize> {
-    if byte_at(s, at) == 1 {
-        rt.write_all(b"  cancel yes\n")?;
-    } else {
-        rt.write_all(b"  cancel no\n")?;
-    }
-    Ok(on(at, 1))
-}
-
-fn has(flags: u8, divisor: u8) -> bool {
-    if divisor == 0 {
-        return false;
-    }
-    flags / divisor % 2 == 1
-}
-
-fn word(rt: &impl Print, flags: u8, divisor: u8, name: &[u8]) -> io::Result<()> {
-    if has(flags, divisor) {
-        return rt.write_all(name);
-    }
-    Ok(())
-}
-
-// An event that carries numbers: two of one byte, then one of w bytes.
-fn carried(
-    rt: &impl Print,
-    flags: u8,
-    divisor: u8,
-    name: &[u8],
-    s: &[u8],
-    at: usize,
-    w: usize,
-) -> io::Result<usize> {
-    if !has(flags, divisor) {
-        return Ok(at);
-    }
-    rt.write_all(name)?;
-    number(rt, s, at, 1)?;
-    number(rt, s, on(at, 1), 1)?;
-    number(rt, s, on(at, 2), w)?;
-    Ok(on(at, on(2, w)))
-}
-
-// The Rust's events tell ids by value, and its timers tell none.
-fn by_value(rt: &impl Print, flags: u8, s: &[u8], at: usize) -> io::Result<()> {
-    if flags % 16 == 0 {
-        return Ok(());
-    }
-    rt.write_all(b" of")?;
-    number(rt, s, on(at, 1), 8)?;
-    number(rt, s, on(at, 10), 8)
-}
-
-fn whose(rt: &impl Print, flags: u8, s: &[u8], at: usize, ids: Ids) -> io::Result<()> {
-    match ids {
-        Ids::Tagged => {
-            rt.write_all(b" of")?;
-            tagged(rt, s, at)?;
-            tagged(rt, s, on(at, 9))
+    // How many of the delivered bytes are the PDU's; the Rust tells none.
+    fn delivered(&mut self) -> io::Result<()> {
+        let no = self.answers.byte();
+        let length = self.answers.number(4);
+        match self.ids {
+            Ids::Tagged => println!(self.rt; "  deliver {no} {length}"),
+            Ids::ByValue => println!(self.rt; "  deliver {no}"),
         }
-        Ids::ByValue => by_value(rt, flags, s, at),
     }
-}
 
-fn events(rt: &impl Print, s: &[u8], at: usize, ids: Ids) -> io::Result<usize> {
-    let flags = byte_at(s, at);
-    if flags == 0 {
-        return Ok(on(at, 1));
+    fn cancelled(&mut self) -> io::Result<()> {
+        let word = if self.answers.byte() == 1 {
+            "yes"
+        } else {
+            "no"
+        };
+        println!(self.rt; "  cancel {word}")
     }
-    word(rt, flags, 1, b" transaction")?;
-    word(rt, flags, 2, b" eof-sent")?;
-    let p = carried(rt, flags, 4, b" fault", s, on(at, 19), 8)?;
-    let q = carried(rt, flags, 8, b" finished", s, p, 1)?;
-    word(rt, flags, 16, b" ack-timer")?;
-    word(rt, flags, 32, b" check-timer")?;
-    whose(rt, flags, s, on(at, 1), ids)?;
-    Ok(q)
-}
 
-// What a step made: its PDU and its events.
-fn made(rt: &impl Print, s: &[u8], at: usize, ids: Ids) -> io::Result<usize> {
-    let n = length(s, at, 2);
-    if n == 0 {
-        rt.write_all(b" -")?;
-    } else {
-        rt.write_all(b" ")?;
-    }
-    hex(rt, part_of(s, on(at, 2), n))?;
-    let next = events(rt, s, on(at, on(n, 2)), ids)?;
-    rt.write_all(b"\n")?;
-    Ok(next)
-}
-
-fn stepped(rt: &impl Print, s: &[u8], at: usize, ids: Ids) -> io::Result<usize> {
-    rt.write_all(b"  step")?;
-    number(rt, s, at, 1)?;
-    made(rt, s, on(at, 1), ids)
-}
-
-// A line for each of n steps.
-fn each_made(rt: &impl Print, s: &[u8], at: usize, n: usize, ids: Ids) -> io::Result<usize> {
-    let mut p = at;
-    let mut k = 0;
-    while k < n {
-        rt.write_all(b"   ")?;
-        p = made(rt, s, p, ids)?;
-        k += 1;
-    }
-    Ok(p)
-}
-
-fn bursted(rt: &impl Print, s: &[u8], at: usize, ids: Ids) -> io::Result<usize> {
-    rt.write_all(b"  burst")?;
-    number(rt, s, at, 1)?;
-    number(rt, s, on(at, 1), 1)?;
-    rt.write_all(b"\n")?;
-    each_made(rt, s, on(at, 2), length(s, on(at, 1), 1), ids)
-}
-
-fn line(rt: &impl Print, s: &[u8], at: usize, ids: Ids) -> io::Result<usize> {
-    let body = on(at, 1);
-    match byte_at(s, at) {
-        1 => refusal(rt, b"  put", s, body),
-        2 => delivered(rt, s, body, ids),
-        3 => stepped(rt, s, body, ids),
-        4 => cancelled(rt, s, body),
-        5 => {
-            rt.write_all(b"  reset\n")?;
-            Ok(body)
+    // The Rust's events tell ids by value, and its timers tell none.
+    fn events(&mut self) -> io::Result<()> {
+        let flags = self.answers.byte();
+        if flags == 0 {
+            return Ok(());
         }
-        6 => bursted(rt, s, body, ids),
-        7 => {
-            rt.write_all(b"  lend\n")?;
-            Ok(body)
+        let idw = self.answers.byte();
+        let id = self.answers.number(8);
+        let seqw = self.answers.byte();
+        let number = self.answers.number(8);
+        if flags & TRANSACTION != 0 {
+            print!(self.rt; " transaction")?;
         }
-        255 => refusal(rt, b"  end", s, body),
-        _ => {
-            rt.write_all(b"  no answer\n")?;
-            Ok(1000001)
+        if flags & EOF_SENT != 0 {
+            print!(self.rt; " eof-sent")?;
+        }
+        if flags & FAULT != 0 {
+            let action = self.answers.byte();
+            let condition = self.answers.byte();
+            let progress = self.answers.number(8);
+            print!(self.rt; " fault {action} {condition} {progress}")?;
+        }
+        if flags & FINISHED != 0 {
+            let condition = self.answers.byte();
+            let delivery = self.answers.byte();
+            let status = self.answers.byte();
+            print!(self.rt; " finished {condition} {delivery} {status}")?;
+        }
+        if flags & ACK_TIMER != 0 {
+            print!(self.rt; " ack-timer")?;
+        }
+        if flags & CHECK_TIMER != 0 {
+            print!(self.rt; " check-timer")?;
+        }
+        match self.ids {
+            Ids::Tagged => print!(self.rt; " of {idw}:{id} {seqw}:{number}"),
+            Ids::ByValue if flags & !(ACK_TIMER | CHECK_TIMER) != 0 => print!(self.rt;
+                " of {id} {number}"
+            ),
+            Ids::ByValue => Ok(()),
+        }
+    }
+
+    // What a step made: its PDU and its events.
+    fn made(&mut self) -> io::Result<()> {
+        let pdu = self.answers.blob(2);
+        print!(self.rt; " ")?;
+        if pdu.is_empty() {
+            print!(self.rt; "-")?;
+        }
+        for b in pdu {
+            print!(self.rt; "{b:02x}")?;
+        }
+        self.events()?;
+        println!(self.rt; "")
+    }
+
+    fn stepped(&mut self) -> io::Result<()> {
+        let no = self.answers.byte();
+        print!(self.rt; "  step {no}")?;
+        self.made()
+    }
+
+    // A line more for each step.
+    fn bursted(&mut self) -> io::Result<()> {
+        let no = self.answers.byte();
+        let count = self.answers.byte();
+        println!(self.rt; "  burst {no} {count}")?;
+        for _ in 0..count {
+            print!(self.rt; "   ")?;
+            self.made()?;
+        }
+        Ok(())
+    }
+
+    // Behind an answer of no kind nobody knows where the next one begins.
+    fn line(&mut self) -> io::Result<()> {
+        match Kind::try_from(self.answers.byte()) {
+            Ok(Kind::Put) => self.refusal("put"),
+            Ok(Kind::Deliver) => self.delivered(),
+            Ok(Kind::Step) => self.stepped(),
+            Ok(Kind::Cancel) => self.cancelled(),
+            Ok(Kind::Reset) => println!(self.rt; "  reset"),
+            Ok(Kind::Burst) => self.bursted(),
+            Ok(Kind::Lend) => println!(self.rt; "  lend"),
+            Err(UnknownKind(END)) => self.refusal("end"),
+            Err(_) => {
+                self.answers = Stream(&[]);
+                println!(self.rt; "  no answer")
+            }
         }
     }
 }
 
-pub fn lines(rt: &impl Print, s: &[u8], ids: Ids) -> io::Result<()> {
-    let mut at = 0;
-    let mut k = 0;
-    while k < s.len() {
-        if at >= s.len() {
+// Every answer takes bytes, so there are no more of them than bytes.
+pub fn lines(rt: &impl Print, answers: &[u8], ids: Ids) -> io::Result<()> {
+    let mut say = Say {
+        rt,
+        answers: Stream(answers),
+        ids,
+    };
+    for _ in 0..answers.len() {
+        if say.answers.is_empty() {
             break;
         }
-        at = line(rt, s, at, ids)?;
-        k += 1;
+        say.line()?;
     }
     Ok(())
 }

@@ -1,49 +1,40 @@
 // A capture of the pass for packet readers: classic pcap, highest byte first, link type 147 (USER0). There is no clock: record k, counted from 0, has the
 // time of k microseconds.
 use crate::files;
-use send_text::tell;
+use send_text::tell::Wrong;
+use send_text::words::Named;
+use std::alloc::{AllocError, Global};
 use std::fs::File;
 use std::io;
 use std::io::Write;
 
 // Magic, version 2.4, zone and accuracy 0, at most 65,535 bytes a record, link type.
-fn begun(file: &File) -> io::Result<()> {
-    let mut to = file;
-    to.write_all(
-        b"\xa1\xb2\xc3\xd4\x00\x02\x00\x04\x00\x00\x00\x00\x00\x00\x00\x00\x00\x00\xff\xff\x00\x00\x00\x93",
-    )
-}
+const HEADER: &[u8] =
+    b"\xa1\xb2\xc3\xd4\x00\x02\x00\x04\x00\x00\x00\x00\x00\x00\x00\x00\x00\x00\xff\xff\x00\x00\x00\x93";
 
-// The capture that argument i names behind "pcap=", begun anew; where it is none, that has been said.
-pub fn open(rt: &HostRuntime, i: usize) -> Option<File> {
-    let file = files::open_over(rt, i, 5)?;
-    match begun(&file) {
-        Ok(()) => Some(file),
-        Err(e) => {
-            tell::capture_cut_short(rt, 0, e);
-            None
-        }
+// The capture, begun anew.
+// Stays: a match, since the borrow checker takes no map_err to an error that names a lifetime of its own.
+pub fn open<'a>(rt: &HostRuntime, named: Named<'a>) -> Result<File, Wrong<'a>> {
+    let mut file = files::open_over(rt, named)?;
+    match file.write_all(HEADER) {
+        Ok(()) => Ok(file),
+        Err(e) => Err(Wrong::Capture(e)),
     }
 }
 
-// What stands before record k of n bytes: seconds and microseconds, n as captured and as it was.
-fn head(k: u64, n: u64) -> [u8; 16] {
-    let mut out = [0u8; 16];
-    let p = basis::fields::put_be(&mut out, 0, 4, k / 1000000);
-    let q = basis::fields::put_be(&mut out, p, 4, k % 1000000);
-    let r = basis::fields::put_be(&mut out, q, 4, n);
-    basis::fields::put_be(&mut out, r, 4, n);
-    out
+// Record k: seconds and microseconds, the PDU's length as captured and as it was, and the PDU.
+fn record(alloc: Global, k: u64, pdu: &[u8]) -> Result<Vec<u8>, AllocError> {
+    let mut out = Vec::new(alloc);
+    let length = pdu.len() as u64;
+    for n in [k / 1000000, k % 1000000, length, length] {
+        out.extend_from_slice(&n.to_be_bytes()[4..])?;
+    }
+    out.extend_from_slice(pdu)?;
+    Ok(out)
 }
 
-// Record k, whole in the capture; nothing where there is none.
-pub fn kept(capture: Option<&File>, k: u64, pdu: &[u8]) -> io::Result<()> {
-    match capture {
-        None => Ok(()),
-        Some(file) => {
-            let mut to = file;
-            to.write_all(&head(k, pdu.len() as u64))?;
-            to.write_all(pdu)
-        }
-    }
+// Record k, whole in the capture.
+pub fn keep(alloc: Global, capture: &File, k: u64, pdu: &[u8]) -> io::Result<()> {
+    let mut file = capture;
+    file.write_all(record(alloc, k, pdu)?.as_slice())
 }

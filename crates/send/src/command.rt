@@ -1,271 +1,119 @@
-// From the words to the summary: each function does one thing more and hands on to the next, so that nothing is written before all is well.
-use crate::files::Loaded;
+// From the words to the summary: nothing is written before all is well.
+use crate::files::Word;
 use crate::output::Output;
-use crate::run::Pass;
-use crate::{capture, files, frames, put, run};
-use pdu_read::field::part_of;
-use send_text::list::is;
+use crate::run::{Given, Pass};
+use crate::{capture, files, frames, put};
 use send_text::tell;
-use send_text::words::{Taken, Words, defaults, with_word};
+use send_text::tell::Wrong;
+use send_text::words::{Named, Words};
 use std::fs::File;
-use std::rt::Env;
-use types::{Answer, Done, State};
+use types::State;
 
-// ---- words
-
-fn complain(rt: &HostRuntime, t: Taken, s: &[u8]) {
-    match t {
-        Taken::With(_) => {}
-        Taken::UnknownWord => tell::about(rt, b"send: unknown word: ", s, b"\n"),
-        Taken::BadValue => tell::about(rt, b"send: bad value: ", s, b"\n"),
-    }
-}
-
-// The words with argument i, whose bytes are s.
-fn taken(rt: &HostRuntime, w: Words, s: &[u8], i: usize) -> Taken {
-    let t = with_word(w, s, i);
-    complain(rt, t, s);
-    t
-}
-
-fn argument(rt: &HostRuntime, w: Words, i: usize) -> Taken {
-    let mut word = [0u8; 4096];
-    match rt.arg(i, &mut word) {
-        Ok(n) => taken(rt, w, &word[..n], i),
-        Err(_) => {
-            tell::line(rt, b"send: a word is longer than 4096 bytes\n");
-            Taken::UnknownWord
+// Argument 0 is the program and 1 the file, unless a call for help takes its place.
+pub fn command(rt: &HostRuntime) -> Result<(), Wrong<'static>> {
+    let all = files::words(rt)?;
+    match all.as_slice() {
+        [_, file, words @ ..] if name_in(file) != b"--help".as_slice() => {
+            if let Err(e) = with_words(rt, name_in(file), words) {
+                tell::complain(rt, e);
+            }
         }
+        _ => tell::usage(rt),
     }
+    Ok(())
+}
+
+// A file's name that is too long counts as none.
+fn name_in(word: &Word) -> &[u8] {
+    word.as_deref().unwrap_or(&[])
 }
 
 // After a wrong word the others are not looked at.
-fn then(rt: &HostRuntime, t: Taken, i: usize) -> Taken {
-    match t {
-        Taken::With(w) => argument(rt, w, i),
-        Taken::UnknownWord => Taken::UnknownWord,
-        Taken::BadValue => Taken::BadValue,
+fn words_in(all: &[Word]) -> Result<Words<'_>, Wrong<'_>> {
+    let mut w = Words::default();
+    for word in all {
+        let Some(bytes) = word else {
+            return Err(Wrong::LongWord(files::LONGEST));
+        };
+        let bytes = bytes.as_slice();
+        w.take(bytes).map_err(|e| Wrong::Word(bytes, e))?;
     }
+    Ok(w)
 }
 
-// Argument 0 is the program and 1 the file.
-fn arguments(rt: &HostRuntime, n: usize) -> Taken {
-    let mut t = Taken::With(defaults());
-    let mut i = 2;
-    while i < n {
-        t = then(rt, t, i);
-        i += 1;
-    }
-    t
-}
-
-// Whether the file's place is taken by a call for help.
-pub fn helps(rt: &HostRuntime) -> bool {
-    let mut word = [0u8; 4096];
-    let n = files::arg(rt, 1, &mut word);
-    is(&word[..n], b"--help")
-}
-
-pub fn command(rt: &HostRuntime, n: usize) {
-    match arguments(rt, n) {
-        Taken::With(w) => with_words(rt, w),
-        Taken::UnknownWord => {}
-        Taken::BadValue => {}
-    }
-}
-
-// ---- files
-
-fn with_words(rt: &HostRuntime, w: Words) {
-    let mut file = [0u8; 1048576];
-    with_room(rt, w, &mut file);
-}
-
-fn with_room(rt: &HostRuntime, w: Words, file: &mut [u8; 1048576]) {
-    match files::load(rt, 1, 0, file, b": larger than 1048576 bytes\n") {
-        Loaded::Bytes(n) => with_file(rt, w, part_of(file, 0, n)),
-        Loaded::Unreadable(_) => {}
-        Loaded::TooLarge => {}
-    }
-}
-
-fn with_file(rt: &HostRuntime, w: Words, file: &[u8]) {
-    let mut answers = [0u8; 65536];
-    if w.answers == 0 {
-        return with_answers(rt, w, file, part_of(&answers, 0, 0));
-    }
-    match files::load(
-        rt,
-        w.answers,
-        8,
-        &mut answers,
-        b": larger than 65536 bytes\n",
-    ) {
-        Loaded::Bytes(n) => with_answers(rt, w, file, part_of(&answers, 0, n)),
-        Loaded::Unreadable(_) => {}
-        Loaded::TooLarge => {}
-    }
-}
-
-fn with_answers(rt: &HostRuntime, w: Words, file: &[u8], answers: &[u8]) {
-    let f = frames::frames_in(answers);
-    if !f.whole {
-        tell::line(
-            rt,
-            b"send: the last answer is cut short; nothing was sent\n",
-        );
-        return;
-    }
-    with_frames(rt, w, file, answers, f.count);
-}
-
-// ---- put
-
-// An argument and where its value begins.
-#[derive(Clone, Copy)]
-struct Value {
-    i: usize,
-    skip: usize,
-}
-
-// The file's own name unless another is given.
-fn source_of(w: Words) -> Value {
-    if w.source == 0 {
-        return Value { i: 1, skip: 0 };
-    }
-    Value {
-        i: w.source,
-        skip: 7,
-    }
-}
-
-// The source's name unless another is given.
-fn dest_of(w: Words) -> Value {
-    if w.dest == 0 {
-        return source_of(w);
-    }
-    Value { i: w.dest, skip: 5 }
-}
-
-fn asked(w: Words, source: &[u8], destination: &[u8], size: u64) -> Done {
-    source::put(
-        put::first(w),
-        put::config(w),
-        put::request(w),
-        source,
-        destination,
-        size,
-    )
-}
-
-fn put(rt: &HostRuntime, w: Words, size: u64) -> Done {
-    let a = source_of(w);
-    let b = dest_of(w);
-    let mut from = [0u8; 4096];
-    let n = files::arg(rt, a.i, &mut from);
-    let mut to = [0u8; 4096];
-    let m = files::arg(rt, b.i, &mut to);
-    asked(
-        w,
-        part_of(&from[..n], a.skip, n),
-        part_of(&to[..m], b.skip, m),
-        size,
-    )
-}
-
-fn with_frames(rt: &HostRuntime, w: Words, file: &[u8], answers: &[u8], count: u64) {
-    let d = put(rt, w, file.len() as u64);
-    let r = d.answer;
-    let s = d.state;
-    match r {
-        Answer::Refused(x) => tell::refused(rt, b"send: put", 0, x),
-        Answer::Accepted => with_state(rt, w, s, file, answers, count),
-    }
-}
-
-// ---- the pass
-
-// The output is opened last, when all else is well.
-fn with_state(rt: &HostRuntime, w: Words, s: State, file: &[u8], answers: &[u8], count: u64) {
-    if w.pcap == 0 {
-        return with_capture(rt, w, s, file, answers, count, None);
-    }
-    if let Some(pcap) = capture::open(rt, w.pcap) {
-        with_capture(rt, w, s, file, answers, count, Some(&pcap));
-        closed(
-            rt,
-            pcap,
-            b"send: the capture could not be closed, so it may lack PDUs\n",
-        );
-    }
-}
-
-fn with_capture(
-    rt: &HostRuntime,
-    w: Words,
-    s: State,
-    file: &[u8],
-    answers: &[u8],
-    count: u64,
-    pcap: Option<&File>,
-) {
-    if w.out == 0 {
-        return with_output(rt, w, s, file, answers, count, pcap, None);
-    }
-    if let Some(out) = files::open_over(rt, w.out, 4) {
-        with_output(rt, w, s, file, answers, count, pcap, Some(&out));
-        closed(
-            rt,
-            out,
-            b"send: the output could not be closed, so it may lack PDUs\n",
-        );
-    }
-}
-
-fn with_output(
-    rt: &HostRuntime,
-    w: Words,
-    s: State,
-    file: &[u8],
-    answers: &[u8],
-    count: u64,
-    pcap: Option<&File>,
-    out: Option<&File>,
-) {
-    let o = Output {
-        rt: rt,
-        file: out,
-        form: w.form,
-        capture: pcap,
-        timed: w.timed,
-        burst: w.burst as usize,
+fn with_words<'a>(rt: &HostRuntime, name: &'a [u8], words: &'a [Word]) -> Result<(), Wrong<'a>> {
+    let w = words_in(words)?;
+    // the whole word is the name
+    let file = files::load(rt, Named { word: name, name }, 1048576)?;
+    let bytes = match w.answers {
+        Some(named) => files::load(rt, named, 65536)?,
+        None => Vec::new(rt.alloc()),
     };
-    summary(rt, run::to_the_end(s, file, answers, o), count);
+    let answers = frames::frames(rt.alloc(), bytes.as_slice())?.ok_or(Wrong::CutAnswer)?;
+    let state = put::put(w, name, file.len())?;
+    let given = Given {
+        file: file.as_slice(),
+        answers: answers.as_slice(),
+        timed: w.limit.is_some(),
+        burst: w.burst,
+    };
+    with_state(rt, w, given, state)
+}
+
+// The output is opened last, when all else is well; where it is none, that is said before the capture is closed.
+fn with_state<'a>(
+    rt: &HostRuntime,
+    w: Words<'a>,
+    given: Given<'_>,
+    state: State,
+) -> Result<(), Wrong<'a>> {
+    let capture = w.pcap.map(|named| capture::open(rt, named)).transpose()?;
+    if let Err(e) = with_capture(rt, w, given, state, capture.as_ref()) {
+        tell::complain(rt, e);
+    }
+    close(rt, capture, "capture");
+    Ok(())
+}
+
+fn with_capture<'a, 'b>(
+    rt: &'b HostRuntime,
+    w: Words<'a>,
+    given: Given<'_>,
+    state: State,
+    capture: Option<&'b File>,
+) -> Result<(), Wrong<'a>> {
+    let file = w.out.map(|named| files::open_over(rt, named)).transpose()?;
+    let output = Output {
+        rt,
+        form: w.form,
+        file: file.as_ref(),
+        capture,
+    };
+    pass(given, output, state);
+    close(rt, file, "output");
+    Ok(())
+}
+
+fn pass<'a>(given: Given<'a>, output: Output<'a>, state: State) {
+    let mut pass = Pass::new(given, output, state);
+    pass.go();
+    let rt = output.rt;
+    let tally = pass.tally;
+    tell::line(rt, format_args!("{tally}"));
+    tell::waits(rt, pass.state.step);
+    let all = given.answers.len();
+    let left = all.saturating_sub(pass.delivered);
+    if left > 0 {
+        tell::line(rt, format_args!("{left} of {all} answers were not used"));
+    }
 }
 
 // std closes a file and says nothing of it, so what the system held back is asked for first.
-fn closed(rt: &HostRuntime, file: File, lacking: &[u8]) {
-    if !files::settled(&file) {
-        tell::line(rt, lacking);
-    }
-}
-
-fn left_over(rt: &HostRuntime, count: u64, delivered: u64) {
-    if delivered < count {
-        tell::counts(
+fn close(rt: &HostRuntime, file: Option<File>, what: &str) {
+    if file.as_ref().is_some_and(|file| !files::settled(file)) {
+        tell::line(
             rt,
-            b"send: # of # answers were not used\n",
-            count - delivered,
-            count,
+            format_args!("the {what} could not be closed, so it may lack PDUs"),
         );
     }
-}
-
-fn summary(rt: &HostRuntime, t: Pass, count: u64) {
-    let tally = t.tally;
-    let s = t.state;
-    let step = s.step;
-    tell::summary(rt, tally);
-    tell::waits(rt, step);
-    left_over(rt, count, t.delivered);
 }

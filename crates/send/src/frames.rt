@@ -1,46 +1,26 @@
 // Frames: two bytes of length, highest first, before each PDU.
-ghost use Rattle.std.specs.Prelude.{◌<◌};
+ghost use Rattle.std.specs.Prelude.{◌<◌, length, IfSome};
 
-pub fn frame_length(s: &[u8], at: usize) -> usize
-    ensures { result < 65536 }
+use std::alloc::{AllocError, Global};
+
+// The PDU of the first frame, and what stands behind that; none where the frame is cut short.
+fn first(bytes: &[u8]) -> Option<(&[u8], &[u8])>
+    ensures { IfSome result (λ p. length p.1.now < length bytes.now) }
 {
-    (basis::fields::num_at(s, at, 2) % 65536) as usize
+    let (n, rest) = bytes.split_first_chunk::<2>()?;
+    rest.split_at_checked(usize::from(u16::from_be_bytes(*n)))
 }
 
-// A place n bytes further; the answers are shorter than a million bytes.
-pub fn on(at: usize, n: usize) -> usize {
-    if at > 1000000 {
-        return at;
+// The PDUs of frames that stand end to end; none where the last frame is cut short.
+pub fn frames(alloc: Global, bytes: &[u8]) -> Result<Option<Vec<&[u8]>>, AllocError> {
+    let mut all = Vec::new(alloc);
+    let mut rest = bytes;
+    while !rest.is_empty() {
+        let Some((pdu, behind)) = first(rest) else {
+            return Ok(None);
+        };
+        all.push(pdu)?;
+        rest = behind;
     }
-    if n > 1000000 {
-        return at;
-    }
-    at + n
-}
-
-pub fn next_frame(s: &[u8], at: usize) -> usize {
-    on(on(at, 2), frame_length(s, at))
-}
-
-// How many whole frames stand there, and whether nothing stands behind them.
-#[derive(Clone, Copy)]
-pub struct Frames {
-    pub count: u64,
-    pub whole: bool,
-}
-
-pub fn frames_in(s: &[u8]) -> Frames {
-    let mut at: usize = 0;
-    let mut count: u64 = 0;
-    while count < 65536 {
-        if at >= s.len() {
-            break;
-        }
-        at = next_frame(s, at);
-        count += 1;
-    }
-    Frames {
-        count: count,
-        whole: at == s.len(),
-    }
+    Ok(Some(all))
 }

@@ -9,15 +9,10 @@ mod output;
 mod put;
 mod run;
 
+use send_text::tell;
+
 fn main(rt: HostRuntime) {
-    let n = files::arg_count(&rt);
-    if n < 2 {
-        send_text::tell::usage(&rt);
-        return;
+    if let Err(e) = command::command(&rt) {
+        tell::complain(&rt, e);
     }
-    if command::helps(&rt) {
-        send_text::tell::usage(&rt);
-        return;
-    }
-    command::command(&rt, n);
 }

@@ -1,83 +1,66 @@
 // Where PDUs go, and in which form.
-use pdu_read::field::part_of;
-use send_text::code::answer;
-use send_text::pdu::{received, sent};
-use send_text::text::{hex_bytes, hex_line, text};
+use crate::capture;
+use send_text::pdu::{Received, Sent};
+use send_text::text::{Hex, hex_line};
+use send_text::words::Form;
+use std::alloc::{AllocError, Global};
 use std::fs::File;
 use std::io;
 use std::io::Write;
-use types::Answer;
+use types::Refusal;
 
-// The output (none: standard output) and its form (0 framed, 1 hex, 2 hex with its meaning), the capture, whether the timer expires, and the steps of a
-// burst (0: no bursts).
+// The output (none: standard output) and its form, and the capture.
 #[derive(Clone, Copy)]
 pub struct Output<'a> {
     pub rt: &'a HostRuntime,
+    pub form: Form,
     pub file: Option<&'a File>,
-    pub form: u8,
     pub capture: Option<&'a File>,
-    pub timed: bool,
-    pub burst: usize,
 }
 
-fn put_out(o: Output<'_>, s: &[u8]) -> io::Result<()> {
-    match o.file {
-        None => o.rt.stdout().write_all(s),
-        Some(file) => {
-            let mut to = file;
-            to.write_all(s)
+// A PDU behind two bytes of its length, highest first.
+fn framed(alloc: Global, pdu: &[u8]) -> Result<Vec<u8>, AllocError> {
+    let mut out = Vec::new(alloc);
+    out.extend_from_slice(&pdu.len().to_be_bytes()[6..])?;
+    out.extend_from_slice(pdu)?;
+    Ok(out)
+}
+
+impl Output<'_> {
+    fn put(self, bytes: &[u8]) -> io::Result<()> {
+        match self.file {
+            None => self.rt.stdout().write_all(bytes),
+            Some(mut file) => file.write_all(bytes),
         }
     }
-}
 
-// ---- what leaves
-
-fn framed(out: &mut [u8], pdu: &[u8]) -> usize {
-    let n = pdu.len();
-    let p = text(out, 0, &[(n / 256 % 256) as u8, (n % 256) as u8]);
-    text(out, p, pdu)
-}
-
-fn hexed(out: &mut [u8], pdu: &[u8]) -> usize {
-    let p = hex_bytes(out, 0, pdu);
-    text(out, p, b"\n")
-}
-
-fn told(out: &mut [u8], pdu: &[u8], repair: bool) -> usize {
-    let p = hex_line(out, b"-> ", pdu);
-    let q = sent(out, p, pdu, repair);
-    text(out, q, b"\n")
-}
-
-fn formed(out: &mut [u8], form: u8, pdu: &[u8], repair: bool) -> usize {
-    match form {
-        0 => framed(out, pdu),
-        1 => hexed(out, pdu),
-        _ => told(out, pdu, repair),
+    // A PDU that leaves.
+    pub fn write(self, pdu: &[u8], repair: bool) -> io::Result<()> {
+        let alloc = self.rt.alloc();
+        match self.form {
+            Form::Framed => self.put(framed(alloc, pdu)?.as_slice()),
+            Form::Hex => self.put(format!(in alloc; "{}\n", Hex(pdu))?.as_bytes()),
+            Form::Said => {
+                let line = hex_line(alloc, "->", pdu, Sent { pdu, repair })?;
+                self.put(line.as_bytes())
+            }
+        }
     }
-}
 
-pub fn written(o: Output<'_>, pdu: &[u8], repair: bool) -> io::Result<()> {
-    let mut out = [0u8; 16384];
-    let n = formed(&mut out, o.form, pdu, repair);
-    put_out(o, part_of(&out, 0, n))
-}
-
-// ---- what comes
-
-fn heard(out: &mut [u8], pdu: &[u8], a: Answer) -> usize {
-    let p = hex_line(out, b"<- ", pdu);
-    let q = received(out, p, pdu);
-    let r = answer(out, q, a);
-    text(out, r, b"\n")
-}
-
-// With the meaning, what comes is shown too.
-pub fn shown(o: Output<'_>, pdu: &[u8], a: Answer) -> io::Result<()> {
-    if o.form < 2 {
-        return Ok(());
+    // With the meaning, what comes is shown too.
+    pub fn show(self, pdu: &[u8], answer: Result<(), Refusal>) -> io::Result<()> {
+        if self.form != Form::Said {
+            return Ok(());
+        }
+        let line = hex_line(self.rt.alloc(), "<-", pdu, Received { pdu, answer })?;
+        self.put(line.as_bytes())
     }
-    let mut out = [0u8; 16384];
-    let n = heard(&mut out, pdu, a);
-    put_out(o, part_of(&out, 0, n))
+
+    // PDU number k of the pass, counted from 0, whole in the capture; nothing where there is none.
+    pub fn keep(self, k: u64, pdu: &[u8]) -> io::Result<()> {
+        let Some(file) = self.capture else {
+            return Ok(());
+        };
+        capture::keep(self.rt.alloc(), file, k, pdu)
+    }
 }

@@ -1,50 +1,44 @@
 // What the words of the command line ask of a put.
 use send_text::words::Words;
 use types::{
-    Choice, EntityId, LocalEntityConfig, PutRequest, RemoteEntityConfig, State, TransactionSeqNum,
+    EntityId, LocalEntityConfig, PutRequest, Refusal, RemoteEntityConfig, State, TransactionSeqNum,
 };
 
-// A number that is no byte becomes 0, which is no width.
-fn small(n: u64) -> u8 {
-    if n > 255 {
-        return 0;
-    }
-    n as u8
-}
-
 // One remote entity, and every fault cancels.
-pub fn config(w: Words) -> LocalEntityConfig {
-    let width = small(w.idwidth);
-    let e = RemoteEntityConfig {
-        id: EntityId(width, w.to),
+fn config(w: Words<'_>) -> LocalEntityConfig {
+    let remote = RemoteEntityConfig {
+        id: EntityId(w.idwidth, w.to),
         maxpacket: w.packet,
         maxsegment: w.segment,
         checksum: w.checksum,
         crc: w.crc,
         unacknowledged: w.unacknowledged,
         closure: w.closure,
-        limit: small(w.limit),
+        limit: w.limit.unwrap_or(1),
     };
-    let a = [1u8; 16];
-    let r = [e; 8];
     LocalEntityConfig {
-        id: EntityId(width, w.from),
-        actions: a,
+        id: EntityId(w.idwidth, w.from),
+        actions: [1; 16],
         eofsent: true,
         finished: true,
-        remotes: r,
+        remotes: [remote; 8],
         count: 1,
     }
 }
 
-pub fn request(w: Words) -> PutRequest {
+fn request(w: Words<'_>) -> PutRequest {
     PutRequest {
-        destination: EntityId(small(w.idwidth), w.to),
-        unacknowledged: Choice::Default,
-        closure: Choice::Default,
+        destination: EntityId(w.idwidth, w.to),
+        unacknowledged: None,
+        closure: None,
     }
 }
 
-pub fn first(w: Words) -> State {
-    source::new(TransactionSeqNum(small(w.seqwidth), w.number))
+// A new handler with one put: a file of so many bytes, whose name goes for both names that are not given; for the destination's the source's goes first.
+pub fn put(w: Words<'_>, file: &[u8], size: usize) -> Result<State, Refusal> {
+    let source = w.source.map_or(file, |given| given.name);
+    let dest = w.dest.map_or(source, |given| given.name);
+    let mut state = source::new(TransactionSeqNum(w.seqwidth, w.number));
+    source::put(&mut state, config(w), request(w), source, dest, size as u64)?;
+    Ok(state)
 }

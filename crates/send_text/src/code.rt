@@ -1,87 +1,84 @@
-// The numbers of 727 and document 01 in words. What goes before them in the line comes with them, since each text costs the check of the function
-// that has it.
-use crate::text::{listed, text};
-use basis::fields::lesser;
-use types::{Answer, FinishedParams, Refusal};
+// The numbers of 727 and document 01 in words.
+use std::fmt;
+use types::{FinishedParams, Refusal};
 
-pub fn condition(out: &mut [u8], at: usize, before: &[u8], c: u8) -> usize {
-    let p = text(out, at, before);
-    listed(
-        out,
-        p,
-        b"no error;positive ACK limit reached;keep alive limit reached;invalid transmission mode;filestore rejection;\
-          file checksum failure;file size error;NAK limit reached;inactivity detected;invalid file structure;\
-          check limit reached;unsupported checksum type;reserved condition;reserved condition;suspend request received;\
-          cancel request received;reserved condition;",
-        lesser(c as usize, 16),
-    )
-}
-
-fn delivery(out: &mut [u8], at: usize, d: u8) -> usize {
-    listed(
-        out,
-        at,
-        b", data complete;, data incomplete;",
-        lesser(d as usize, 1),
-    )
-}
-
-fn status(out: &mut [u8], at: usize, s: u8) -> usize {
-    listed(
-        out,
-        at,
-        b", file discarded;, file rejected by the filestore;, file retained;, file status unreported;",
-        lesser(s as usize, 3),
-    )
-}
-
-pub fn finished(out: &mut [u8], at: usize, before: &[u8], v: FinishedParams) -> usize {
-    let p = condition(out, at, before, v.condition);
-    let q = delivery(out, p, v.delivery);
-    status(out, q, v.status)
-}
-
-// ---- refusals
-
-// Its place among them.
-fn place(r: Refusal) -> usize {
-    match r {
-        Refusal::AlreadyBusy => 0,
-        Refusal::BadIdWidth => 1,
-        Refusal::NoRemoteCfgFound => 2,
-        Refusal::BadConfig => 3,
-        Refusal::BadNameLength => 4,
-        Refusal::SourceFileNotValidUtf8 => 5,
-        Refusal::DestFileNotValidUtf8 => 6,
-        Refusal::PacketLimit => 7,
-        Refusal::Malformed => 8,
-        Refusal::CantProcessPacketType => 9,
-        Refusal::UnexpectedPdu => 10,
-        Refusal::OtherTransaction => 11,
-        Refusal::InvalidNakPdu => 12,
-        Refusal::RetransmitFull => 13,
-        Refusal::FileChanged => 14,
-        Refusal::OutTooSmall => 15,
-        Refusal::BurstTooLong => 16,
+pub fn condition(c: u8) -> &'static str {
+    match c {
+        0 => "no error",
+        1 => "positive ACK limit reached",
+        2 => "keep alive limit reached",
+        3 => "invalid transmission mode",
+        4 => "filestore rejection",
+        5 => "file checksum failure",
+        6 => "file size error",
+        7 => "NAK limit reached",
+        8 => "inactivity detected",
+        9 => "invalid file structure",
+        10 => "check limit reached",
+        11 => "unsupported checksum type",
+        14 => "suspend request received",
+        15 => "cancel request received",
+        _ => "reserved condition",
     }
 }
 
-pub fn refusal(out: &mut [u8], at: usize, before: &[u8], r: Refusal) -> usize {
-    let p = text(out, at, before);
-    listed(
-        out,
-        p,
-        b"1 AlreadyBusy;2 BadIdWidth;3 NoRemoteCfgFound;4 BadConfig;5 BadNameLength;6 SourceFileNotValidUtf8;\
-          7 DestFileNotValidUtf8;8 PacketLimit;20 Malformed;21 CantProcessPacketType;22 UnexpectedPdu;\
-          23 OtherTransaction;24 InvalidNakPdu;25 RetransmitFull;30 FileChanged;31 OutTooSmall;32 BurstTooLong;",
-        place(r),
-    )
+fn delivery(d: u8) -> &'static str {
+    match d {
+        0 => "data complete",
+        _ => "data incomplete",
+    }
 }
 
-// What became of a delivery.
-pub fn answer(out: &mut [u8], at: usize, a: Answer) -> usize {
+fn status(s: u8) -> &'static str {
+    match s {
+        0 => "file discarded",
+        1 => "file rejected by the filestore",
+        2 => "file retained",
+        _ => "file status unreported",
+    }
+}
+
+// What a Finished PDU says.
+#[derive(Clone, Copy)]
+pub struct Finished(pub FinishedParams);
+
+impl fmt::Display for Finished {
+    fn fmt<W: fmt::Write>(&self, f: &mut fmt::Formatter<W>) -> fmt::Result {
+        let condition = condition(self.0.condition);
+        let delivery = delivery(self.0.delivery);
+        let status = status(self.0.status);
+        write!(f, "{condition}, {delivery}, {status}")
+    }
+}
+
+// What a handler does on a fault.
+pub fn action(a: u8) -> &'static str {
     match a {
-        Answer::Accepted => at,
-        Answer::Refused(r) => refusal(out, at, b", refused: ", r),
+        1 => "cancel",
+        3 => "ignore",
+        _ => "abandon",
+    }
+}
+
+// A refusal with its number.
+pub fn refusal(r: Refusal) -> &'static str {
+    match r {
+        Refusal::AlreadyBusy => "1 AlreadyBusy",
+        Refusal::BadIdWidth => "2 BadIdWidth",
+        Refusal::NoRemoteCfgFound => "3 NoRemoteCfgFound",
+        Refusal::BadConfig => "4 BadConfig",
+        Refusal::BadNameLength => "5 BadNameLength",
+        Refusal::SourceFileNotValidUtf8 => "6 SourceFileNotValidUtf8",
+        Refusal::DestFileNotValidUtf8 => "7 DestFileNotValidUtf8",
+        Refusal::PacketLimit => "8 PacketLimit",
+        Refusal::Malformed => "20 Malformed",
+        Refusal::CantProcessPacketType => "21 CantProcessPacketType",
+        Refusal::UnexpectedPdu => "22 UnexpectedPdu",
+        Refusal::OtherTransaction => "23 OtherTransaction",
+        Refusal::InvalidNakPdu => "24 InvalidNakPdu",
+        Refusal::RetransmitFull => "25 RetransmitFull",
+        Refusal::FileChanged => "30 FileChanged",
+        Refusal::OutTooSmall => "31 OutTooSmall",
+        Refusal::BurstTooLong => "32 BurstTooLong",
     }
 }

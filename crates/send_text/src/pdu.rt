@@ -1,149 +1,234 @@
 // A PDU's meaning in plain words.
-use crate::code::{condition, finished};
-use crate::nak::nak;
-use crate::text::{hex, listed, name, numbers, on, text};
-use pdu_read::directive::read_body;
-use pdu_read::field::{byte_at, part_of, size_width, up_to};
+use crate::code::{Finished, condition, refusal};
+use crate::text::Name;
+use pdu_read::directive::{Directive, read_body};
+use pdu_read::field::size_width;
 use pdu_read::header::read_header;
-use types::{Body, Frame, Framed, Meaning};
+use pdu_read::nak::NakPduReader;
+use std::fmt;
+use types::{Frame, Meaning, ReadError, Refusal, SegmentRequest};
 
-// The sum, or the largest number there is.
-pub fn plus(a: u64, b: u64) -> u64 {
-    if b > 18446744073709551615 - a {
-        return 18446744073709551615;
+// The fields of a body, one behind the other. What lies past the end is not there.
+#[derive(Drop)]
+struct Fields<'a>(&'a [u8]);
+
+impl<'a> Fields<'a> {
+    fn of(pdu: &'a [u8], frame: Frame) -> Self {
+        Fields(pdu.get(frame.start..frame.end).unwrap_or(&[]))
     }
-    a + b
-}
 
-// What has no meaning, or none for a sender.
-fn none(out: &mut [u8], at: usize, n: usize) -> usize {
-    listed(out, at, b"no PDU;no PDU for a sender;", n)
+    fn bytes(&mut self, n: usize) -> &'a [u8] {
+        let (field, rest) = self.0.split_at(n.min(self.0.len()));
+        self.0 = rest;
+        field
+    }
+
+    // Highest byte first.
+    fn number(&mut self, width: usize) -> u64 {
+        let field = self.bytes(width);
+        field.iter().fold(0, |n, b| n << 8 | u64::from(*b))
+    }
+
+    fn byte(&mut self) -> u8 {
+        self.bytes(1).first().copied().unwrap_or(0)
+    }
+
+    // The upper half of a byte.
+    fn condition(&mut self) -> &'static str {
+        condition(self.byte() / 16)
+    }
+
+    // A name behind its length byte.
+    fn name(&mut self) -> Name<'a> {
+        let length = usize::from(self.byte());
+        Name(self.bytes(length))
+    }
 }
 
 // ---- what the sender emits
 
-// Each from the place where its body starts on; w is the width of a size.
-
-fn file_data(out: &mut [u8], at: usize, pdu: &[u8], start: usize, w: usize, end: usize) -> usize {
-    let offset = basis::fields::num_at(pdu, start, w);
-    let n = up_to(on(start, w), end);
-    numbers(out, at, b"File data #..#", offset, plus(offset, n as u64))
+#[derive(Clone, Copy)]
+enum Emitted<'a> {
+    FileData {
+        offset: u64,
+        end: u64,
+    },
+    Metadata {
+        size: u64,
+        source: Name<'a>,
+        dest: Name<'a>,
+    },
+    Eof {
+        condition: &'static str,
+        sum: u64,
+        size: u64,
+    },
+    AckOfFinished {
+        condition: &'static str,
+    },
+    Another,
 }
 
-// A name behind its length byte.
-fn long_name(pdu: &[u8], at: usize) -> &[u8] {
-    part_of(pdu, on(at, 1), byte_at(pdu, at) as usize)
-}
-
-// Two names behind each other, the first at a place.
-fn names(out: &mut [u8], at: usize, pdu: &[u8], first: usize) -> usize {
-    let source = long_name(pdu, first);
-    let p = name(out, at, source);
-    let q = text(out, p, b"\" -> \"");
-    name(out, q, long_name(pdu, on(on(first, 1), source.len())))
-}
-
-fn metadata(out: &mut [u8], at: usize, pdu: &[u8], start: usize, w: usize) -> usize {
-    let p = text(out, at, b"Metadata \"");
-    let q = names(out, p, pdu, on(on(start, 2), w));
-    let size = basis::fields::num_at(pdu, on(start, 2), w);
-    numbers(out, q, b"\", # bytes", size, 0)
-}
-
-fn eof(out: &mut [u8], at: usize, pdu: &[u8], start: usize, w: usize) -> usize {
-    let p = condition(out, at, b"EOF ", byte_at(pdu, on(start, 1)) / 16);
-    let size = basis::fields::num_at(pdu, on(start, 6), w);
-    let q = numbers(out, p, b", # bytes, checksum ", size, 0);
-    hex(out, q, basis::fields::num_at(pdu, on(start, 2), 4), 8)
-}
-
-fn ack(out: &mut [u8], at: usize, pdu: &[u8], start: usize) -> usize {
-    let c = byte_at(pdu, on(start, 2)) / 16;
-    condition(out, at, b"ACK of Finished, ", c)
-}
-
-fn directive(out: &mut [u8], at: usize, pdu: &[u8], start: usize, w: usize) -> usize {
-    match byte_at(pdu, start) {
-        4 => eof(out, at, pdu, start, w),
-        6 => ack(out, at, pdu, start),
-        7 => metadata(out, at, pdu, start, w),
-        _ => text(out, at, b"another PDU"),
+impl<'a> Emitted<'a> {
+    fn read(pdu: &'a [u8]) -> Option<Self> {
+        let frame = read_header(pdu)?;
+        let width = size_width(frame.head.large);
+        let fields = Fields::of(pdu, frame);
+        Some(if frame.filedata {
+            Emitted::file_data(fields, width)
+        } else {
+            Emitted::directive(fields, width)
+        })
     }
-}
 
-fn sent_in(out: &mut [u8], at: usize, pdu: &[u8], f: Frame) -> usize {
-    let start = f.start;
-    let w = size_width(f.head.large);
-    if f.filedata {
-        return file_data(out, at, pdu, start, w, f.end);
+    fn file_data(mut fields: Fields<'a>, width: usize) -> Self {
+        let offset = fields.number(width);
+        let end = offset.saturating_add(fields.0.len() as u64);
+        Emitted::FileData { offset, end }
     }
-    directive(out, at, pdu, start, w)
-}
 
-fn again(out: &mut [u8], at: usize, repair: bool) -> usize {
-    if repair {
-        return text(out, at, b", again");
-    }
-    at
-}
-
-// What an emitted PDU says; a repair is marked.
-pub fn sent(out: &mut [u8], at: usize, pdu: &[u8], repair: bool) -> usize {
-    match read_header(pdu) {
-        Framed::Malformed => none(out, at, 0),
-        Framed::Whole(f) => {
-            let p = sent_in(out, at, pdu, f);
-            again(out, p, repair)
+    fn directive(mut fields: Fields<'a>, width: usize) -> Self {
+        match Directive::try_from(fields.byte()) {
+            Ok(Directive::Eof) => {
+                let condition = fields.condition();
+                let sum = fields.number(4);
+                let size = fields.number(width);
+                Emitted::Eof {
+                    condition,
+                    sum,
+                    size,
+                }
+            }
+            Ok(Directive::Ack) => {
+                fields.byte();
+                let condition = fields.condition();
+                Emitted::AckOfFinished { condition }
+            }
+            Ok(Directive::Metadata) => {
+                fields.byte();
+                let size = fields.number(width);
+                let source = fields.name();
+                let dest = fields.name();
+                Emitted::Metadata { size, source, dest }
+            }
+            _ => Emitted::Another,
         }
     }
 }
 
+impl fmt::Display for Emitted<'_> {
+    fn fmt<W: fmt::Write>(&self, f: &mut fmt::Formatter<W>) -> fmt::Result {
+        match *self {
+            Emitted::FileData { offset, end } => write!(f, "File data {offset}..{end}"),
+            Emitted::Metadata { size, source, dest } => {
+                write!(f, "Metadata \"{source}\" -> \"{dest}\", {size} bytes")
+            }
+            Emitted::Eof {
+                condition,
+                sum,
+                size,
+            } => write!(f, "EOF {condition}, {size} bytes, checksum {sum:08x}"),
+            Emitted::AckOfFinished { condition } => write!(f, "ACK of Finished, {condition}"),
+            Emitted::Another => f.write_str("another PDU"),
+        }
+    }
+}
+
+// An emitted PDU; a repair is marked.
 #[derive(Clone, Copy)]
-pub enum Sum {
-    Of(u64),
-    NoEof,
+pub struct Sent<'a> {
+    pub pdu: &'a [u8],
+    pub repair: bool,
+}
+
+impl fmt::Display for Sent<'_> {
+    fn fmt<W: fmt::Write>(&self, f: &mut fmt::Formatter<W>) -> fmt::Result {
+        let again = if self.repair { ", again" } else { "" };
+        match Emitted::read(self.pdu) {
+            None => f.write_str("no PDU"),
+            Some(emitted) => write!(f, "{emitted}{again}"),
+        }
+    }
 }
 
 // The checksum of an emitted EOF.
-pub fn sum_of(pdu: &[u8]) -> Sum {
-    match read_header(pdu) {
-        Framed::Malformed => Sum::NoEof,
-        Framed::Whole(f) => {
-            let start = f.start;
-            if f.filedata {
-                return Sum::NoEof;
-            }
-            if byte_at(pdu, start) == 4 {
-                return Sum::Of(basis::fields::num_at(pdu, on(start, 2), 4));
-            }
-            Sum::NoEof
-        }
+pub fn sum_of(pdu: &[u8]) -> Option<u64> {
+    match Emitted::read(pdu)? {
+        Emitted::Eof { sum, .. } => Some(sum),
+        _ => None,
     }
 }
 
 // ---- what the receiver answers
 
-fn meaning(out: &mut [u8], at: usize, pdu: &[u8], start: usize, large: bool, m: Meaning) -> usize {
-    match m {
-        Meaning::Finished(v) => finished(out, at, b"Finished, ", v),
-        Meaning::AckOfEof => text(out, at, b"ACK of EOF"),
-        Meaning::Nak(n) => nak(out, at, pdu, start, large, n),
-        Meaning::KeepAlive(progress) => numbers(out, at, b"Keep Alive #", progress, 0),
+// A delivered PDU, and what became of it.
+#[derive(Clone, Copy)]
+pub struct Received<'a> {
+    pub pdu: &'a [u8],
+    pub answer: Result<(), Refusal>,
+}
+
+impl Received<'_> {
+    fn write_body<W: fmt::Write>(&self, f: &mut fmt::Formatter<W>, frame: Frame) -> fmt::Result {
+        match read_body(self.pdu, frame) {
+            Err(ReadError::Malformed) => f.write_str("no PDU"),
+            Err(ReadError::CantProcess) => f.write_str("no PDU for a sender"),
+            Ok(meaning) => self.write_meaning(f, frame, meaning),
+        }
+    }
+
+    fn write_meaning<W: fmt::Write>(
+        &self,
+        f: &mut fmt::Formatter<W>,
+        frame: Frame,
+        meaning: Meaning,
+    ) -> fmt::Result {
+        match meaning {
+            Meaning::Finished(v) => write!(f, "Finished, {}", Finished(v)),
+            Meaning::AckOfEof => f.write_str("ACK of EOF"),
+            Meaning::Nak(n) => self.write_requests(f, frame, n),
+            Meaning::KeepAlive(progress) => write!(f, "Keep Alive {progress}"),
+        }
+    }
+
+    // The first eight of the n requests of a NAK.
+    fn write_requests<W: fmt::Write>(
+        &self,
+        f: &mut fmt::Formatter<W>,
+        frame: Frame,
+        n: usize,
+    ) -> fmt::Result {
+        let large = frame.head.large;
+        let requests = NakPduReader {
+            pdu: self.pdu,
+            large,
+            // behind the code and the scope
+            at: frame.start.saturating_add(1 + 2 * size_width(large)),
+            left: n.min(8),
+        };
+        f.write_str("NAK for")?;
+        let mut first = true;
+        for SegmentRequest { start, end } in requests {
+            f.write_str(if first { " " } else { ", " })?;
+            match (start, end) {
+                (0, 0) => f.write_str("metadata")?,
+                _ => write!(f, "{start}..{end}")?,
+            }
+            first = false;
+        }
+        f.write_str(if n > 8 { " and more" } else { "" })
     }
 }
 
-fn received_in(out: &mut [u8], at: usize, pdu: &[u8], f: Frame) -> usize {
-    match read_body(pdu, f) {
-        Body::Malformed => none(out, at, 0),
-        Body::CantProcess => none(out, at, 1),
-        Body::Means(m) => meaning(out, at, pdu, f.start, f.head.large, m),
-    }
-}
-
-// What a delivered PDU says to a sender.
-pub fn received(out: &mut [u8], at: usize, pdu: &[u8]) -> usize {
-    match read_header(pdu) {
-        Framed::Malformed => none(out, at, 0),
-        Framed::Whole(f) => received_in(out, at, pdu, f),
+impl fmt::Display for Received<'_> {
+    fn fmt<W: fmt::Write>(&self, f: &mut fmt::Formatter<W>) -> fmt::Result {
+        match read_header(self.pdu) {
+            None => f.write_str("no PDU")?,
+            Some(frame) => self.write_body(f, frame)?,
+        }
+        if let Err(r) = self.answer {
+            write!(f, ", refused: {}", refusal(r))?;
+        }
+        Ok(())
     }
 }

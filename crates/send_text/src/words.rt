@@ -1,131 +1,157 @@
-// The words of the command line, over slices. Any bytes at all are taken; what is no word, or no value of its word, is answered so.
+// The words of the command line. Any bytes at all are taken; what is no word, or no value of its word, is answered so.
+use crate::decimal::number;
 
-use crate::list::place_in;
-use crate::values::choice_word;
+// In which form PDUs are written: framed, in hex, or in hex with their meaning.
+#[derive(Clone, Copy, PartialEq, Eq, PartialOrd, Ord)]
+pub enum Form {
+    Framed,
+    Hex,
+    Said,
+}
 
-// What the words ask for. A name is kept as the number of its argument, 0 where none was given.
+// A word that gives the name of a file: its bytes, and the name in it.
 #[derive(Clone, Copy)]
-pub struct Words {
+pub struct Named<'a> {
+    pub word: &'a [u8],
+    pub name: &'a [u8],
+}
+
+// What the words ask for.
+#[derive(Clone, Copy)]
+pub struct Words<'a> {
     pub from: u64,
     pub to: u64,
     pub number: u64,
-    pub idwidth: u64,
-    pub seqwidth: u64,
+    pub idwidth: u8,
+    pub seqwidth: u8,
     pub segment: u64,
     pub packet: u64,
-    pub limit: u64,
-    // a limit was given
-    pub timed: bool,
+    // none: the timer does not expire
+    pub limit: Option<u8>,
     // steps a call, 0: no bursts
-    pub burst: u64,
+    pub burst: u8,
     pub unacknowledged: bool,
     pub closure: bool,
     pub crc: bool,
     pub checksum: u8,
-    // 0 framed, 1 hex, 2 hex with its meaning
-    pub form: u8,
-    pub source: usize,
-    pub dest: usize,
-    pub out: usize,
-    pub pcap: usize,
-    pub answers: usize,
+    pub form: Form,
+    pub source: Option<Named<'a>>,
+    pub dest: Option<Named<'a>>,
+    pub out: Option<Named<'a>>,
+    pub pcap: Option<Named<'a>>,
+    pub answers: Option<Named<'a>>,
 }
 
-pub fn defaults() -> Words {
-    Words {
-        from: 1,
-        to: 2,
-        number: 7,
-        idwidth: 1,
-        seqwidth: 1,
-        segment: 1024,
-        packet: 1024,
-        limit: 1,
-        timed: false,
-        burst: 0,
-        unacknowledged: true,
-        closure: false,
-        crc: false,
-        checksum: 0,
-        form: 0,
-        source: 0,
-        dest: 0,
-        out: 0,
-        pcap: 0,
-        answers: 0,
+impl Default for Words<'_> {
+    fn default() -> Self {
+        Words {
+            from: 1,
+            to: 2,
+            number: 7,
+            idwidth: 1,
+            seqwidth: 1,
+            segment: 1024,
+            packet: 1024,
+            limit: None,
+            burst: 0,
+            unacknowledged: true,
+            closure: false,
+            crc: false,
+            checksum: 0,
+            form: Form::Framed,
+            source: None,
+            dest: None,
+            out: None,
+            pcap: None,
+            answers: None,
+        }
     }
 }
 
-#[derive(Clone, Copy)]
-pub enum Taken {
-    With(Words),
-    UnknownWord,
-    BadValue,
+// Why a word is not taken.
+#[derive(Clone, Copy, PartialEq, Eq)]
+pub enum BadWord {
+    Unknown,
+    Value,
 }
 
-// Where the first '=' stands; the length where there is none.
-fn equals_at(s: &[u8]) -> usize {
-    let mut i = 0;
-    while i < s.len() {
-        if s[i] == b'=' {
-            return i;
+impl<'a> Words<'a> {
+    // Takes a word in. Of a word that is given twice the last one counts, but for the form, where the one that shows most does.
+    pub fn take(&mut self, word: &'a [u8]) -> Result<(), BadWord> {
+        match word {
+            b"--hex" => self.form = self.form.max(Form::Hex),
+            b"--say" => self.form = Form::Said,
+            _ => return self.take_value(word),
         }
-        i += 1;
+        Ok(())
     }
-    i
-}
 
-// Words whose value is a name, and the others; i is the argument's number.
-fn name_word(w: Words, key: &[u8], value: &[u8], i: usize) -> Taken {
-    let mut v = w;
-    match place_in(b"source;dest;out;answers;pcap;", key) {
-        0 => {
-            v.source = i;
-            Taken::With(v)
+    // A word and its value, with the '=' between them.
+    fn take_value(&mut self, word: &'a [u8]) -> Result<(), BadWord> {
+        let Some(at) = word.iter().position(|b| *b == b'=') else {
+            return Err(BadWord::Unknown);
+        };
+        let name = &word[at + 1..];
+        self.set(&word[..at], Named { word, name })
+    }
+
+    // A width and a limit are bytes, and a burst has at most sixteen steps.
+    fn set(&mut self, key: &[u8], given: Named<'a>) -> Result<(), BadWord> {
+        let value = given.name;
+        match key {
+            b"from" => self.from = any(value)?,
+            b"to" => self.to = any(value)?,
+            b"number" => self.number = any(value)?,
+            b"idwidth" => self.idwidth = at_most(value, 8)?,
+            b"seqwidth" => self.seqwidth = at_most(value, 8)?,
+            b"segment" => self.segment = any(value)?,
+            b"packet" => self.packet = any(value)?,
+            b"limit" => self.limit = Some(at_most(value, 255)?),
+            b"burst" => self.burst = at_most(value, 16)?,
+            b"mode" => self.unacknowledged = chosen(value, b"acknowledged", b"unacknowledged")?,
+            b"closure" => self.closure = chosen(value, b"no", b"yes")?,
+            b"crc" => self.crc = chosen(value, b"no", b"yes")?,
+            b"checksum" => self.checksum = checksum(value)?,
+            b"source" => self.source = Some(given),
+            b"dest" => self.dest = Some(given),
+            b"out" => self.out = Some(given),
+            b"pcap" => self.pcap = Some(given),
+            b"answers" => self.answers = Some(given),
+            _ => return Err(BadWord::Unknown),
         }
-        1 => {
-            v.dest = i;
-            Taken::With(v)
-        }
-        2 => {
-            v.out = i;
-            Taken::With(v)
-        }
-        3 => {
-            v.answers = i;
-            Taken::With(v)
-        }
-        4 => {
-            v.pcap = i;
-            Taken::With(v)
-        }
-        _ => choice_word(w, key, value),
+        Ok(())
     }
 }
 
-fn with_form(w: Words, form: u8) -> Taken {
-    let mut v = w;
-    if v.form < form {
-        v.form = form;
-        return Taken::With(v);
-    }
-    Taken::With(v)
+fn any(value: &[u8]) -> Result<u64, BadWord> {
+    number(value).ok_or(BadWord::Value)
 }
 
-// A word and its value, with the '=' between them.
-fn value_word(w: Words, s: &[u8], i: usize) -> Taken {
-    let e = equals_at(s);
-    if s.len() <= e {
-        return Taken::UnknownWord;
+fn at_most(value: &[u8], most: u8) -> Result<u8, BadWord> {
+    match u8::try_from(any(value)?) {
+        Ok(n) if n <= most => Ok(n),
+        _ => Err(BadWord::Value),
     }
-    name_word(w, &s[0..e], &s[e + 1..], i)
 }
 
-// The words with argument i, whose bytes are s.
-pub fn with_word(w: Words, s: &[u8], i: usize) -> Taken {
-    match place_in(b"--hex;--say;", s) {
-        0 => with_form(w, 1),
-        1 => with_form(w, 2),
-        _ => value_word(w, s, i),
+fn chosen(value: &[u8], no: &[u8], yes: &[u8]) -> Result<bool, BadWord> {
+    if value == yes {
+        Ok(true)
+    } else if value == no {
+        Ok(false)
+    } else {
+        Err(BadWord::Value)
+    }
+}
+
+// Document 01's numbers of the four types.
+// Stays: a put takes the number, which an enum would only be turned into.
+fn checksum(value: &[u8]) -> Result<u8, BadWord> {
+    match value {
+        b"modular" => Ok(0),
+        b"crc32c" => Ok(2),
+        b"crc32" => Ok(3),
+        b"null" => Ok(15),
+        _ => Err(BadWord::Value),
     }
 }

@@ -1,140 +1,61 @@
 // A decoder of its own for what the writers wrote: no code of the readers or writers is used, and CRC-16 goes by a byte-wise formula.
-ghost use Rattle.std.specs.Prelude.{◌≤◌, ◌<◌};
+ghost use Rattle.std.specs.Prelude.{◌≤◌};
 
 use types::Head;
 
-fn at(b: &[u8], i: usize) -> u64
-    ensures { result < 256 }
-{
-    if i < b.len() {
-        return basis::fields::wide(b[i]);
-    }
-    0
-}
-
-// A number of w bytes, highest first, modulo 2^64.
-fn number(b: &[u8], from: usize, w: usize) -> u64 {
-    let mut v: u64 = 0;
-    let mut k = 0;
-    while k < w {
-        if from > 1000000 {
-            return 0;
-        }
-        if k > 1000000 {
-            return 0;
-        }
-        v = v % 72057594037927936 * 256 + at(b, from + k);
-        k += 1;
-    }
-    v
+// A number, highest byte first, modulo 2^64.
+fn number(b: &[u8]) -> u64 {
+    b.iter().fold(0, |v, &x| v << 8 | u64::from(x))
 }
 
 // One byte of CRC-16 by the formula without tables.
-fn crc_byte(c: u64, b: u64) -> u64 {
-    let c = c % 65536;
-    let x = (c / 256) ^ (b % 256);
-    let x = x ^ (x / 16);
-    let x = x % 256;
-    (c % 256 * 256) ^ (x % 16 * 4096) ^ (x * 32) ^ x
+fn crc_byte(c: u16, b: u8) -> u16 {
+    let x = c >> 8 ^ u16::from(b);
+    let x = x ^ x >> 4;
+    c << 8 ^ x << 12 ^ x << 5 ^ x
 }
 
-fn crc(b: &[u8], n: usize) -> u64 {
-    let mut c: u64 = 65535;
-    let mut i = 0;
-    while i < n {
-        c = crc_byte(c, at(b, i));
-        i += 1;
-    }
-    c % 65536
+fn crc(b: &[u8]) -> u16 {
+    b.iter().fold(0xFFFF, |c, &x| crc_byte(c, x))
 }
 
-fn same_flag(bit: u64, flag: bool) -> bool {
-    if flag {
-        return bit == 1;
-    }
-    bit == 0
+// Version 1, file data or not, towards the receiver, the three flags.
+fn first_byte(h: Head, filedata: bool) -> u8 {
+    let bits = [filedata, false, h.unacknowledged, h.crc, h.large];
+    bits.iter().fold(1, |v, &b| v << 1 | u8::from(b))
 }
 
-// Bits of byte 0.
-fn first_agrees(b: u64, filedata: bool, h: Head) -> bool {
-    if b / 32 != 1 {
-        return false;
+// The body of a PDU that has this header, and this CRC if it has one; of others none.
+pub fn body_of(pdu: &[u8], h: Head, filedata: bool) -> Option<Body<'_>> {
+    let mut rest = Body(pdu);
+    let first = rest.next(1)?;
+    let length = rest.next(2)?;
+    let widths = rest.next(1)?;
+    let idw = h.source.0;
+    let seqw = h.number.0;
+    let source = rest.next(usize::from(idw))?;
+    let number = rest.next(usize::from(seqw))?;
+    let destination = rest.next(usize::from(idw))?;
+    let agrees = first == u64::from(first_byte(h, filedata))
+        && length == rest.0.len() as u64
+        && widths / 16 + 1 == u64::from(idw)
+        && widths % 16 + 1 == u64::from(seqw)
+        && source == h.source.1
+        && number == h.number.1
+        && destination == h.destination.1;
+    if !agrees {
+        return None;
     }
-    if !same_flag(b / 16 % 2, filedata) {
-        return false;
-    }
-    if b / 8 % 2 != 0 {
-        return false;
-    }
-    if !same_flag(b / 4 % 2, h.unacknowledged) {
-        return false;
-    }
-    if !same_flag(b / 2 % 2, h.crc) {
-        return false;
-    }
-    same_flag(b % 2, h.large)
-}
-
-pub fn header_length(h: Head) -> usize
-    ensures { result ≤ 1000 }
-{
-    4 + 2 * (h.source.0 as usize) + (h.number.0 as usize)
-}
-
-fn crc_length(h: Head) -> usize
-    ensures { result ≤ 2 }
-{
-    if h.crc { 2 } else { 0 }
-}
-
-fn ids_agree(b: &[u8], h: Head) -> bool {
-    let i = h.source.0 as usize;
-    let s = h.number.0 as usize;
-    if number(b, 4, i) != h.source.1 {
-        return false;
-    }
-    if number(b, 4 + i, s) != h.number.1 {
-        return false;
-    }
-    number(b, 4 + i + s, i) == h.destination.1
-}
-
-fn crc_agrees(b: &[u8], h: Head) -> bool {
     if !h.crc {
-        return true;
+        return Some(rest);
     }
-    if b.len() < 2 {
-        return false;
+    let (covered, sum) = pdu.split_last_chunk::<2>()?;
+    let (fields, _) = rest.0.split_last_chunk::<2>()?;
+    if u16::from_be_bytes(*sum) == crc(covered) {
+        Some(Body(fields))
+    } else {
+        None
     }
-    let n = b.len() - 2;
-    number(b, n, 2) == crc(b, n)
-}
-
-// Everything but the body, whose length is given.
-pub fn frame_agrees(b: &[u8], h: Head, filedata: bool, body: usize) -> bool {
-    if body > 65535 {
-        return false;
-    }
-    let data = body + crc_length(h);
-    if b.len() != header_length(h) + data {
-        return false;
-    }
-    if !first_agrees(at(b, 0), filedata, h) {
-        return false;
-    }
-    if number(b, 1, 2) != data as u64 {
-        return false;
-    }
-    if at(b, 3) / 16 + 1 != h.source.0 as u64 {
-        return false;
-    }
-    if at(b, 3) % 16 + 1 != h.number.0 as u64 {
-        return false;
-    }
-    if !ids_agree(b, h) {
-        return false;
-    }
-    crc_agrees(b, h)
 }
 
 pub fn size_width(h: Head) -> usize
@@ -143,26 +64,27 @@ pub fn size_width(h: Head) -> usize
     if h.large { 8 } else { 4 }
 }
 
-// A number of the body, i bytes behind its start.
-pub fn body_number(b: &[u8], h: Head, i: usize, w: usize) -> u64 {
-    if i > 65535 {
-        return 0;
-    }
-    number(b, header_length(h) + i, w)
-}
+// What is left of a body, taken from the front.
+#[derive(Clone, Copy)]
+pub struct Body<'a>(&'a [u8]);
 
-// A run of bytes of the body.
-pub fn body_run(b: &[u8], h: Head, i: usize, run: &[u8]) -> bool {
-    if i > 65535 {
-        return false;
+impl Body<'_> {
+    // The number in the next w bytes.
+    pub fn next(&mut self, w: usize) -> Option<u64> {
+        self.0.split_off(..w).map(number)
     }
-    let p = header_length(h) + i;
-    let mut k = 0;
-    while k < run.len() {
-        if at(b, p + k) != basis::fields::wide(run[k]) {
-            return false;
-        }
-        k += 1;
+
+    // Whether a run of bytes comes next.
+    pub fn has(&mut self, run: &[u8]) -> bool {
+        self.0.split_off(..run.len()) == Some(run)
     }
-    true
+
+    // Whether a run of bytes comes next, behind a byte of length.
+    pub fn has_name(&mut self, name: &[u8]) -> bool {
+        self.next(1) == Some(name.len() as u64) && self.has(name)
+    }
+
+    pub fn is_over(&self) -> bool {
+        self.0.is_empty()
+    }
 }

@@ -1,145 +1,75 @@
 // What a delivery is read as, held to the vector.
-use crate::run::Ran;
 use crate::take;
-use pdu_read::field::byte_at;
-use types::{Body, Frame, Framed, Meaning};
+use pdu_read::directive::read_body;
+use pdu_read::field::size_width;
+use pdu_read::header::read_header;
+use pdu_read::nak::NakPduReader;
+use stream::Stream;
+use types::{Frame, Meaning, ReadError};
 
-// The n pairs of a delivered NAK, held to the vector's.
-fn pairs_agree(delivery: &[u8], large: bool, first: usize, s: &[u8], at: usize, n: usize) -> bool {
-    let mut k = 0;
-    let mut p = first;
-    let mut q = at;
-    while k < n {
-        let pair = pdu_read::nak::pair_from(delivery, large, p);
-        let r = pair.request;
-        if r.start != basis::fields::num_at(s, q, 8) {
-            return false;
-        }
-        if r.end != basis::fields::num_at(s, take::on(q, 8), 8) {
-            return false;
-        }
-        p = pair.next;
-        q = take::on(q, 16);
-        k += 1;
+// The refusals of a delivery that has no meaning.
+const MALFORMED: u8 = 20;
+
+const CANT_PROCESS: u8 = 21;
+
+// The codes of the directives that have a meaning.
+const FINISHED: u8 = 5;
+
+const ACK: u8 = 6;
+
+const NAK: u8 = 8;
+
+const KEEP_ALIVE: u8 = 12;
+
+// The vector's pairs stand behind their count. Of 62,500 and more, which no stream holds, not even the count is passed over.
+fn nak_agrees(delivery: &[u8], f: Frame, n: usize, v: &mut Stream) -> bool {
+    let mut behind = *v;
+    let count = take::length(&mut behind);
+    let mut pairs = Stream(behind.run(16 * count));
+    if count < 62500 {
+        *v = behind;
     }
-    true
+    let large = f.head.large;
+    let mut requests = NakPduReader {
+        pdu: delivery,
+        large,
+        at: f.start.saturating_add(1 + 2 * size_width(large)),
+        left: n,
+    };
+    n == count && requests.all(|r| r.start == pairs.number(8) && r.end == pairs.number(8))
 }
 
-fn meaning_vector(delivery: &[u8], f: Frame, m: Meaning, s: &[u8], at: usize) -> Ran {
-    let code = byte_at(s, at);
-    let p = take::on(at, 1);
+// The vector's meaning stands behind its code. If that is of another meaning, nobody knows how long it is.
+fn meaning_agrees(delivery: &[u8], f: Frame, m: Meaning, v: &mut Stream) -> Option<bool> {
+    let code = v.byte();
     match m {
-        Meaning::Finished(v) => {
-            if code != 5 {
-                return Ran {
-                    ok: false,
-                    next: 1000000,
-                };
-            }
-            if v.condition != byte_at(s, p) {
-                return Ran {
-                    ok: false,
-                    next: take::on(p, 3),
-                };
-            }
-            if v.delivery != byte_at(s, take::on(p, 1)) {
-                return Ran {
-                    ok: false,
-                    next: take::on(p, 3),
-                };
-            }
-            Ran {
-                ok: v.status == byte_at(s, take::on(p, 2)),
-                next: take::on(p, 3),
-            }
+        Meaning::Finished(p) if code == FINISHED => {
+            let condition = v.byte();
+            let delivered = v.byte();
+            let status = v.byte();
+            Some(p.condition == condition && p.delivery == delivered && p.status == status)
         }
-        Meaning::AckOfEof => Ran {
-            ok: code == 6,
-            next: p,
-        },
-        Meaning::Nak(n) => {
-            let count = take::length(s, p);
-            let large = f.head.large;
-            let first = take::on(f.start, 1 + 2 * pdu_read::field::size_width(large));
-            let next = take::on(p, 2 + 16 * count);
-            if code != 8 {
-                return Ran {
-                    ok: false,
-                    next: 1000000,
-                };
-            }
-            if n != count {
-                return Ran {
-                    ok: false,
-                    next: next,
-                };
-            }
-            Ran {
-                ok: pairs_agree(delivery, large, first, s, take::on(p, 2), n),
-                next: next,
-            }
+        Meaning::AckOfEof => Some(code == ACK),
+        Meaning::Nak(n) if code == NAK => Some(nak_agrees(delivery, f, n, v)),
+        Meaning::KeepAlive(progress) if code == KEEP_ALIVE => Some(progress == v.number(8)),
+        _ => None,
+    }
+}
+
+// How many bytes are the PDU's, and the answer to it, held to those of the vector; behind an answer of 0 stands the meaning.
+pub fn delivery_vector(v: &mut Stream) -> Option<bool> {
+    let delivery = v.blob(2);
+    let length = v.number(3);
+    let answer = v.byte();
+    let Some(f) = read_header(delivery) else {
+        return Some(answer == MALFORMED && length == 0);
+    };
+    match read_body(delivery, f) {
+        Err(ReadError::Malformed) => Some(answer == MALFORMED && length == 0),
+        Err(ReadError::CantProcess) => Some(answer == CANT_PROCESS && length == f.length as u64),
+        Ok(m) if answer == 0 => {
+            Some(meaning_agrees(delivery, f, m, v)? && length == f.length as u64)
         }
-        Meaning::KeepAlive(progress) => {
-            if code != 12 {
-                return Ran {
-                    ok: false,
-                    next: 1000000,
-                };
-            }
-            Ran {
-                ok: progress == basis::fields::num_at(s, p, 8),
-                next: take::on(p, 8),
-            }
-        }
-    }
-}
-
-// How many bytes are the PDU's, held to the three bytes of the vector at a place.
-fn length_agrees(n: usize, s: &[u8], at: usize) -> bool {
-    n as u64 == basis::fields::num_at(s, at, 3)
-}
-
-// A delivery without a meaning: the number, and the answer behind it.
-fn refused(answer: u8, n: usize, s: &[u8], at: usize) -> Ran {
-    let next = take::on(at, 4);
-    if byte_at(s, take::on(at, 3)) != answer {
-        return Ran {
-            ok: false,
-            next: next,
-        };
-    }
-    Ran {
-        ok: length_agrees(n, s, at),
-        next: next,
-    }
-}
-
-fn accepted(delivery: &[u8], f: Frame, m: Meaning, s: &[u8], at: usize) -> Ran {
-    if byte_at(s, take::on(at, 3)) != 0 {
-        return Ran {
-            ok: false,
-            next: 1000000,
-        };
-    }
-    let r = meaning_vector(delivery, f, m, s, take::on(at, 4));
-    if length_agrees(f.length, s, at) {
-        return r;
-    }
-    Ran {
-        ok: false,
-        next: r.next,
-    }
-}
-
-pub fn delivery_vector(s: &[u8], at: usize) -> Ran {
-    let delivery = take::blob(s, at);
-    let e = take::past(s, at);
-    match pdu_read::header::read_header(delivery) {
-        Framed::Malformed => refused(20, 0, s, e),
-        Framed::Whole(f) => match pdu_read::directive::read_body(delivery, f) {
-            Body::Malformed => refused(20, 0, s, e),
-            Body::CantProcess => refused(21, f.length, s, e),
-            Body::Means(m) => accepted(delivery, f, m, s, e),
-        },
+        Ok(_) => None,
     }
 }

@@ -12,6 +12,7 @@ mod written;
 use std::io;
 
 fn main(rt: HostRuntime) -> io::Result<()> {
+    // Stays: a fixed buffer, since of a longer input the first 65,536 bytes count.
     let mut buf = [0u8; 65536];
     let n = intake::read_full(&mut rt.stdin(), &mut buf)?;
     run::all(&rt, &buf[..n])

@@ -1,119 +1,72 @@
 // Each kind of vector: what the crates say of it, held to what the vector says.
 use crate::delivered::delivery_vector;
 use crate::metadata::metadata_vector;
-use crate::take;
 use crate::written::{ack_vector, data_vector, eof_vector};
-use pdu_read::field::{byte_at, part_of};
 use std::io;
-use types::Checksum;
+use stream::Stream;
 
-// Whether a vector agrees, and where the next one begins.
-#[derive(Clone, Copy)]
-pub struct Ran {
-    pub ok: bool,
-    pub next: usize,
+fn utf8_vector(v: &mut Stream) -> bool {
+    let name = v.blob(2);
+    let valid = v.byte() == 1;
+    utf8::is_utf8(name) == valid
 }
 
-fn utf8_vector(s: &[u8], at: usize) -> Ran {
-    let name = take::blob(s, at);
-    let e = take::past(s, at);
-    let want = byte_at(s, e) == 1;
-    Ran {
-        ok: utf8::is_utf8(name) == want,
-        next: take::on(e, 1),
-    }
+fn sum_vector(v: &mut Stream) -> bool {
+    let kind = v.byte();
+    let n = v.number(4) as usize;
+    let file = v.blob(2);
+    let known = v.byte() == 1;
+    let want = v.number(4);
+    checksum::calculate_checksum(kind, file, n).map(u64::from) == known.then_some(want)
 }
 
-fn sum_agrees(got: Checksum, known: bool, want: u64) -> bool {
-    match got {
-        Checksum::Is(v) => {
-            if known {
-                return v as u64 == want;
-            }
-            false
-        }
-        Checksum::UnknownType => !known,
-    }
+fn crc_vector(v: &mut Stream) -> bool {
+    let bytes = v.blob(2);
+    u64::from(checksum::crc16(bytes)) == v.number(2)
 }
 
-fn sum_vector(s: &[u8], at: usize) -> Ran {
-    let kind = byte_at(s, at);
-    let n = (basis::fields::num_at(s, take::on(at, 1), 4) % 4294967296) as usize;
-    let file = take::blob(s, take::on(at, 5));
-    let e = take::past(s, take::on(at, 5));
-    let known = byte_at(s, e) == 1;
-    let want = basis::fields::num_at(s, take::on(e, 1), 4);
-    let got = checksum::calculate_checksum(kind, file, n);
-    Ran {
-        ok: sum_agrees(got, known, want),
-        next: take::on(e, 5),
-    }
-}
-
-fn crc_vector(s: &[u8], at: usize) -> Ran {
-    let e = take::past(s, at);
-    let want = basis::fields::num_at(s, e, 2);
-    let got = checksum::crc16(take::blob(s, at)) as u64;
-    Ran {
-        ok: got == want,
-        next: take::on(e, 2),
-    }
-}
-
-fn one(kind: u8, s: &[u8], at: usize) -> Ran {
+// Whether a vector agrees; none if nobody knows where it ends.
+// Stays: an enum of the kinds needs this match twice, from number to variant and from variant to function, and is used nowhere else.
+fn one(kind: u8, v: &mut Stream) -> Option<bool> {
     match kind {
-        1 => utf8_vector(s, at),
-        2 => sum_vector(s, at),
-        3 => crc_vector(s, at),
-        4 => metadata_vector(s, at),
-        5 => data_vector(s, at),
-        6 => eof_vector(s, at),
-        7 => ack_vector(s, at),
-        8 => delivery_vector(s, at),
-        _ => Ran {
-            ok: false,
-            next: 1000000,
-        },
+        1 => Some(utf8_vector(v)),
+        2 => Some(sum_vector(v)),
+        3 => Some(crc_vector(v)),
+        4 => Some(metadata_vector(v)),
+        5 => Some(data_vector(v)),
+        6 => Some(eof_vector(v)),
+        7 => Some(ack_vector(v)),
+        8 => delivery_vector(v),
+        _ => None,
     }
 }
 
 fn say(rt: &impl Print, label: &[u8], ok: bool) -> io::Result<()> {
+    let word = if ok { "ok" } else { "differs" };
     rt.write_all(label)?;
-    if ok {
-        rt.write_all(b": ok\n")
-    } else {
-        rt.write_all(b": differs\n")
-    }
+    println!(rt; ": {word}")
 }
 
-fn more(n: u64, ok: bool) -> u64 {
-    if ok {
-        return n;
-    }
-    if n > 1000000 {
-        return n;
-    }
-    n + 1
-}
-
+// Every vector takes bytes, so there are no more of them than bytes.
 pub fn all(rt: &impl Print, s: &[u8]) -> io::Result<()> {
-    let mut at = 0;
-    let mut k: u64 = 0;
+    let mut v = Stream(s);
+    let mut count: u64 = 0;
     let mut bad: u64 = 0;
-    while k < 65536 {
-        if at >= s.len() {
+    for _ in 0..s.len() {
+        if v.is_empty() {
             break;
         }
-        let n = byte_at(s, take::on(at, 1)) as usize;
-        let body = take::on(take::on(at, 2), n);
-        let r = one(byte_at(s, at), s, body);
-        say(rt, part_of(s, take::on(at, 2), n), r.ok)?;
-        bad = more(bad, r.ok);
-        at = r.next;
-        k += 1;
+        let kind = v.byte();
+        let n = v.byte();
+        let label = v.run(usize::from(n));
+        let agrees = one(kind, &mut v);
+        let ok = agrees.unwrap_or(false);
+        say(rt, label, ok)?;
+        count = count.saturating_add(1);
+        bad = bad.saturating_add(u64::from(!ok));
+        if agrees.is_none() {
+            break;
+        }
     }
-    rt.print(k)?;
-    rt.write_all(b" vectors, ")?;
-    rt.print(bad)?;
-    rt.write_all(b" differ\n")
+    println!(rt; "{count} vectors, {bad} differ")
 }
