@@ -36,7 +36,7 @@ def exchanged(poly):
 
 def lines(comment, name, digits, numbers):
     yield '\n// ' + comment
-    yield f'pub const {name}: [u32; 256] = ['
+    yield f'pub static {name}: [u32; 256] = ['
     a_row = 1 if digits > 4 else 12                      # numbers of up to ten characters stand in rows
     words = ['0x' + '_'.join(f'{n:0{digits}X}'[i:i + 4] for i in range(0, digits, 4)) + ',' for n in numbers]
     for i in range(0, len(words), a_row):
