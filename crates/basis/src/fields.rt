@@ -16,7 +16,8 @@ fn byte_of(v: u64, k: usize) -> u8
 
 // The w lowest bytes of v at a place of out, the highest of them first; the place behind them. The widths that most fields have, one and
 // four, are written without the loop: so a header costs less.
-// Stays: the place stands beside the buffer, here and below, since each contract says of the whole buffer what it is (`laid`).
+// Stays: the place stands beside the buffer, here and below, since each contract says of the whole buffer what it is, or of which bytes a number is (`laid`, `num_at`).
+// Stays: one byte and four have ways of their own: without them a burst of sixteen data PDUs of 100 bytes costs some 1,500 instructions more (docs/DECISIONS.md), and it may take 60 percent of its calls.
 pub fn put_be(out: &mut [u8], at: usize, w: usize, v: u64) -> usize
     requires { at + w ≤ length out.old }
     ensures { (result ≡ at + w) × (out.new ≡ laid out.old at (be w v)) }

@@ -11,6 +11,7 @@ fn main(rt: HostRuntime) -> io::Result<()> {
     let n = intake::read_full(&mut rt.stdin(), &mut buf)?;
     let mut input = Stream(&buf[..n]);
     let file = input.blob(4);
+    // Stays: a fixed space for the answers, of which `host` says what has room.
     let mut answers = [0u8; 65536];
     let k = host::tsendrivaty_run(input.0, file, &mut answers) as usize;
     rt.write_all(&answers[..k.min(answers.len())])

@@ -56,6 +56,7 @@ impl Host<'_, '_> {
         let expired = self.calls.byte()? != 0;
         let lent = front(self.lent, self.calls.length()?);
         let room = self.calls.length()?.min(SPACE);
+        // Stays: a fixed space, here and below; no heap.
         let mut space = [0u8; SPACE];
         let step = source::step(&mut self.state, lent, expired, &mut space[..room]);
         self.answer(Kind::Step, step.map(|_| ()));

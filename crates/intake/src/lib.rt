@@ -16,7 +16,7 @@ pub fn read_full<R: Read>(from: &mut R, buf: &mut [u8]) -> io::Result<usize>
     ensures bytes { IfOk result (λ n. Consumes (R.remaining from.old) (R.remaining from.new) (take n buf.new)) }
     ensures end { IfOk result (λ n. n < length buf.new → IsAtEnd (R.remaining from.new)) }
 {
-    // Stays: (d) std's read_exact doesn't say how many bytes a short input gave, and its read_to_end fills a Vec, which needs a heap.
+    // Stays: std's read_exact doesn't say how many bytes a short input gave, and its read_to_end fills a Vec, which needs a heap.
     let mut done = 0;
     while done < buf.len() {
         let n = from.read(&mut buf[done..])?;

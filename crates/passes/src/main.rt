@@ -4,6 +4,7 @@
 
 use std::io;
 
+// Stays: this and `beside_rust` differ in the last word alone, since the gate runs each program on its own stored runs.
 fn main(rt: HostRuntime) -> io::Result<()> {
     // Stays: a fixed buffer, since of a longer input the first 65,536 bytes count.
     let mut buf = [0u8; 65536];

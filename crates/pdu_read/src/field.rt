@@ -33,7 +33,7 @@ pub fn num_of(s: &[u8], at: usize, w: usize) -> u64
 }
 
 // .. that are there.
-// Stays: by num_of, which asks again whether they are there, a short delivery costs some 48 instructions more (docs/CHECKTIME.md).
+// Stays: by `num_of`, which asks again whether they are there, a short delivery costs some 48 instructions more, where 3 percent (11 of an ACK's 346) is the bar (docs/CHECKTIME.md, R-4).
 #[tactic(auto, using(crate::proofs::Fields::cutting), unfolding(basis::specs::Bytes::part, basis::specs::Bytes::num_at))]
 pub(crate) fn num_in(s: &[u8], at: usize, w: usize) -> u64
     requires { (w ≤ 8) × (at + w ≤ length s.now) }

@@ -10,7 +10,7 @@ use checksum::crc16;
 use types::Head;
 
 // H: the header's own length.
-// Stays: the reader has one of its own (pdu_read), which takes bytes and no header.
+// Stays: the reader has one of its own (pdu_read), which takes bytes and no header, and a put works with numbers of eight bytes (source_put, `overhead`).
 pub fn head_length(h: Head) -> usize
     ensures { (result ≡ headLength h) × (result < 1024) }
 {
@@ -21,7 +21,6 @@ pub fn head_length(h: Head) -> usize
 
 // Byte 0 from the top: version 001, type, direction, mode, CRC flag, large flag.
 #[tactic(auto, using(crate::proofs::Packs::packing))]
-// Stays: shifts and masks, here and in `pack3`, as document 01 shows these bytes.
 fn pack0(filedata: bool, tosender: bool, unacknowledged: bool, crc: bool, large: bool) -> u8
     ensures { result ≡ byte0 filedata tosender unacknowledged crc large }
 {

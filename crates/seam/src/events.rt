@@ -2,6 +2,7 @@
 ghost use Rattle.std.specs.Prelude.{◌≡◌};
 ghost use Rattle.seam_rules.specs.Memory.{timer_no, reported, no_report};
 
+// Stays: plain functions between the types of two other crates: an impl of From can stand in neither's place here.
 use seam_rules::memory::Report;
 use types::{EntityId, Fault, FinishedParams, Made, Timer, TransactionSeqNum};
 

@@ -26,7 +26,7 @@ use source_deliver::arrival_of;
 use source_step::outcome::outcome_of;
 use types::{EntityId, TransactionSeqNum};
 
-// Stays: the parameters of these functions and of `burst` are C's.
+// Stays: the parameters of these functions, and of those of module `burst`, are C's.
 
 // A handler whose first put takes this number of `width` bytes; the configuration stays. Returns 0.
 #[unsafe(no_mangle)]

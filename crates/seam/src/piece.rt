@@ -7,7 +7,7 @@ ghost use Rattle.seam.specs.Pieces.{request_due, serves, has_more, has_room, is_
 use crate::taken::head_taken;
 use pdu_write::file_data::FileData;
 use seam_rules::memory::{Handler, Report, Transaction};
-use types::{FileParams, FinishedParams, SegmentRequest};
+use types::{FileParams, FinishedParams, SegmentRequest, TransactionStep};
 
 // The request that the next step serves: the oldest, else what is left of the first pass.
 #[tactic(auto, unfolding(crate::specs::Pieces::request_due, rules::specs::Queues::oldest))]
@@ -29,7 +29,7 @@ fn request_due(h: &Handler) -> SegmentRequest
 fn serves(h: &Handler) -> bool
     ensures { result ≡ serves h.now }
 {
-    h.marks.owed == 0 && (h.queue.count > 0 || h.step == 2)
+    h.marks.owed == 0 && (h.queue.count > 0 || h.step == TransactionStep::SendingFileData as u8)
 }
 
 // A piece of `segment` bytes of this request is not its last, and all of it is in the file.

@@ -4,6 +4,7 @@ ghost use Rattle.rules.specs.States.{step_no};
 ghost use Rattle.seam_rules.specs.Memory.{fixed_stored, marks_stored, held_of};
 ghost use Rattle.seam.specs.Parts.{light_of, light_held};
 
+// Stays: plain functions between the types of two other crates: an impl of From can stand in neither's place here.
 use seam_rules::memory::{Handler, HeldMarks, Report, Transaction};
 use types::{Fixed, Marks, State, TransactionStep};
 

@@ -2,6 +2,7 @@
 ghost use Rattle.std.specs.Prelude.{◌≡◌, map};
 ghost use Rattle.seam_rules.specs.Memory.{flag_of, remote_of, config_of, step_of, head_taken, fixed_taken, marks_taken, state_of, choice_of, request_of};
 
+// Stays: plain functions between the types of two other crates: an impl of From can stand in neither's place here.
 use seam_rules::memory::{Config, Handler, HeldMarks, Remote, Transaction};
 use types::{
     EntityId, Fixed, Head, LocalEntityConfig, Marks, PutRequest, RemoteEntityConfig, State,

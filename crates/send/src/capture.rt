@@ -13,13 +13,10 @@ const HEADER: &[u8] =
     b"\xa1\xb2\xc3\xd4\x00\x02\x00\x04\x00\x00\x00\x00\x00\x00\x00\x00\x00\x00\xff\xff\x00\x00\x00\x93";
 
 // The capture, begun anew.
-// Stays: a match, since the borrow checker takes no map_err to an error that names a lifetime of its own.
 pub fn open<'a>(rt: &HostRuntime, named: Named<'a>) -> Result<File, Wrong<'a>> {
     let mut file = files::open_over(rt, named)?;
-    match file.write_all(HEADER) {
-        Ok(()) => Ok(file),
-        Err(e) => Err(Wrong::Capture(e)),
-    }
+    file.write_all(HEADER).map_err(|e| Wrong::Capture(e))?;
+    Ok(file)
 }
 
 // Record k: seconds and microseconds, the PDU's length as captured and as it was, and the PDU.

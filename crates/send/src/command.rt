@@ -60,6 +60,7 @@ fn with_words<'a>(rt: &HostRuntime, name: &'a [u8], words: &'a [Word]) -> Result
     with_state(rt, w, given, state)
 }
 
+// Stays: words, what is given and the state go on apart: each function takes what the next one needs, and the last ones take them into a pass.
 // The output is opened last, when all else is well; where it is none, that is said before the capture is closed.
 fn with_state<'a>(
     rt: &HostRuntime,

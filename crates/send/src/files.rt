@@ -16,7 +16,7 @@ pub const LONGEST: usize = 4096;
 pub type Word = Option<Vec<u8>>;
 
 // All words, the program's own name first.
-// Stays: a count, since std's `args` takes no word that is not text.
+// Stays: a count, and a fixed buffer for one word, since std's `args` takes no word that is not text.
 pub fn words(rt: &HostRuntime) -> Result<Vec<Word>, AllocError> {
     let mut all = Vec::new(rt.alloc());
     let mut word = [0u8; LONGEST];
@@ -48,6 +48,7 @@ fn read_whole(rt: &HostRuntime, name: &[u8], buf: &mut [u8]) -> io::Result<Optio
 }
 
 // The whole file, of so many bytes at most.
+// Stays: a Vec of the most, cut to what was read: std's read_to_end would hold a longer file whole before it is refused.
 pub fn load<'a>(rt: &HostRuntime, file: Named<'a>, most: usize) -> Result<Vec<u8>, Wrong<'a>> {
     let mut bytes = vec![in rt.alloc(); 0u8; most]?;
     match read_whole(rt, file.name, bytes.as_mut_slice()) {

@@ -1,4 +1,5 @@
 // The numbers of 727 and document 01 in words.
+// Stays: numbers, which this module is there to name.
 use std::fmt;
 use types::{FinishedParams, Refusal};
 

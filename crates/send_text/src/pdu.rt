@@ -6,43 +6,17 @@ use pdu_read::field::size_width;
 use pdu_read::header::read_header;
 use pdu_read::nak::NakPduReader;
 use std::fmt;
+use stream::Stream;
 use types::{Frame, Meaning, ReadError, Refusal, SegmentRequest};
 
 // The fields of a body, one behind the other. What lies past the end is not there.
-#[derive(Drop)]
-struct Fields<'a>(&'a [u8]);
+fn fields<'a>(pdu: &'a [u8], frame: Frame) -> Stream<'a> {
+    Stream(pdu.get(frame.start..frame.end).unwrap_or(&[]))
+}
 
-impl<'a> Fields<'a> {
-    fn of(pdu: &'a [u8], frame: Frame) -> Self {
-        Fields(pdu.get(frame.start..frame.end).unwrap_or(&[]))
-    }
-
-    fn bytes(&mut self, n: usize) -> &'a [u8] {
-        let (field, rest) = self.0.split_at(n.min(self.0.len()));
-        self.0 = rest;
-        field
-    }
-
-    // Highest byte first.
-    fn number(&mut self, width: usize) -> u64 {
-        let field = self.bytes(width);
-        field.iter().fold(0, |n, b| n << 8 | u64::from(*b))
-    }
-
-    fn byte(&mut self) -> u8 {
-        self.bytes(1).first().copied().unwrap_or(0)
-    }
-
-    // The upper half of a byte.
-    fn condition(&mut self) -> &'static str {
-        condition(self.byte() / 16)
-    }
-
-    // A name behind its length byte.
-    fn name(&mut self) -> Name<'a> {
-        let length = usize::from(self.byte());
-        Name(self.bytes(length))
-    }
+// The condition in the upper half of a byte.
+fn condition_in(fields: &mut Stream) -> &'static str {
+    condition(fields.byte() / 16)
 }
 
 // ---- what the sender emits
@@ -72,27 +46,27 @@ enum Emitted<'a> {
 impl<'a> Emitted<'a> {
     fn read(pdu: &'a [u8]) -> Option<Self> {
         let frame = read_header(pdu)?;
-        let width = size_width(frame.head.large);
-        let fields = Fields::of(pdu, frame);
+        let fields = fields(pdu, frame);
+        let large = frame.head.large;
         Some(if frame.filedata {
-            Emitted::file_data(fields, width)
+            Emitted::file_data(fields, large)
         } else {
-            Emitted::directive(fields, width)
+            Emitted::directive(fields, large)
         })
     }
 
-    fn file_data(mut fields: Fields<'a>, width: usize) -> Self {
-        let offset = fields.number(width);
+    fn file_data(mut fields: Stream<'a>, large: bool) -> Self {
+        let offset = fields.number(size_width(large));
         let end = offset.saturating_add(fields.0.len() as u64);
         Emitted::FileData { offset, end }
     }
 
-    fn directive(mut fields: Fields<'a>, width: usize) -> Self {
+    fn directive(mut fields: Stream<'a>, large: bool) -> Self {
         match Directive::try_from(fields.byte()) {
             Ok(Directive::Eof) => {
-                let condition = fields.condition();
+                let condition = condition_in(&mut fields);
                 let sum = fields.number(4);
-                let size = fields.number(width);
+                let size = fields.number(size_width(large));
                 Emitted::Eof {
                     condition,
                     sum,
@@ -101,14 +75,14 @@ impl<'a> Emitted<'a> {
             }
             Ok(Directive::Ack) => {
                 fields.byte();
-                let condition = fields.condition();
+                let condition = condition_in(&mut fields);
                 Emitted::AckOfFinished { condition }
             }
             Ok(Directive::Metadata) => {
                 fields.byte();
-                let size = fields.number(width);
-                let source = fields.name();
-                let dest = fields.name();
+                let size = fields.number(size_width(large));
+                let source = Name(fields.blob(1));
+                let dest = Name(fields.blob(1));
                 Emitted::Metadata { size, source, dest }
             }
             _ => Emitted::Another,

@@ -29,6 +29,7 @@ pub struct Words<'a> {
     // none: the timer does not expire
     pub limit: Option<u8>,
     // steps a call, 0: no bursts
+    // Stays: a count, as the word gives it.
     pub burst: u8,
     pub unacknowledged: bool,
     pub closure: bool,

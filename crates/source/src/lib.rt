@@ -17,7 +17,8 @@ use types::{
     TransactionSeqNum,
 };
 
-// Stays: each call is named here once more beside the crate that has its code, since this crate is what a host uses.
+// Stays: the seven calls are named here once more beside the crates that have their code: they are the public ones, which hosts, the seam and the tests use by these names.
+// Stays: their parameters stand apart, as `PutMeets`, `StepMeets` and `BurstMeets` name them and as C lends them.
 
 // A handler whose first put takes this number.
 pub fn new(number: TransactionSeqNum) -> State
@@ -49,7 +50,6 @@ pub fn deliver(s: &mut State, bytes: &[u8]) -> Delivery
 }
 
 // Makes one step over the lent file and emits at most one PDU, in front of `out`: refusals 30 and 31, or items 1 to 9.
-// Stays: state, file, expiry and buffer apart, here and in the crates below, as `StepMeets` and `BurstMeets` name them and as C lends them.
 pub fn step(s: &mut State, file: &[u8], expired: bool, out: &mut [u8]) -> Result<Made, Refusal>
     ensures { StepMeets s.old file.now expired out.old out.new (stepped_as s.old result s.new) }
 {

@@ -44,7 +44,7 @@ fn move_of(m: Meaning) -> Effect
     }
 }
 
-// Stays: state, bytes and frame go on together to the four functions below; a struct of them would be taken apart in each contract, which says what each does.
+// Stays: state, bytes and frame go on together to the functions below and to those of module `nak`; a struct of them would be taken apart in each contract, which says what each does.
 fn by_verdict(s: &State, bytes: &[u8], f: Frame, m: Meaning, v: Verdict) -> Result<Effect, Refusal>
     ensures { done_by s.now bytes.now result ≡ verdict_done s.now bytes.now f m v }
 {

@@ -5,6 +5,8 @@ ghost use Rattle.rules.specs.Step.{action_for, fault_due, ack_expired, check_exp
 
 use types::{Due, State, TransactionStep};
 
+// Stays: actions and conditions are document 01's numbers here, as `action_for` and `fault_due` have them.
+
 // The configured action of the condition; once cancelled it is abandon.
 #[tactic(auto, unfolding(rules::specs::Step::action_for))]
 fn action_for(s: &State, condition: u8) -> u8

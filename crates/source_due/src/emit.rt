@@ -43,8 +43,8 @@ fn emit_metadata(s: &State, out: &mut [u8]) -> Option<usize>
 }
 
 // ACK status 1 is Active.
+// Stays: state, file and buffer apart, as `StepMeets` names them.
 #[tactic(auto, using(crate::proofs::Parts::none_written, crate::proofs::Parts::none_in_front))]
-// Stays: state, file and buffer apart, as a step is lent them.
 pub fn emit(s: &State, file: &[u8], p: Sending, out: &mut [u8]) -> Option<usize>
     ensures value { result ≡ written_of (bytes_for s.now file.now p) out.old }
     ensures out_after { out.new ≡ in_front (bytes_for s.now file.now p) out.old }

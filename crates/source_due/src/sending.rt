@@ -4,6 +4,7 @@ ghost use Rattle.std.specs.Prelude.{◌≡◌, take, drop};
 ghost use Rattle.rules.specs.Step.{eof_for, sent_eof, repair_of, next_length, sum_behind, closing, sending_of};
 
 use checksum::sum_on;
+use pdu_read::field::part_of;
 use types::{Due, Eof, SegmentRequest, Sending, State};
 
 // With the stored checksum: no byte of the file is read.
@@ -49,12 +50,11 @@ pub fn next_length(s: &State) -> u64
 }
 
 // The bytes of the file from the offset on, as many as are there.
+#[tactic(auto, unfolding(basis::specs::Bytes::part))]
 pub(crate) fn piece_of(file: &[u8], offset: u64, length: u64) -> &[u8]
     ensures { result.now ≡ take length (drop offset file.now) }
 {
-    let a = (offset as usize).min(file.len());
-    let n = (length as usize).min(file.len() - a);
-    &file[a..a + n]
+    part_of(file, offset as usize, length as usize)
 }
 
 // The checksum behind the next piece of the first pass: the stored one goes on over the bytes of this piece.

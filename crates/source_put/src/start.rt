@@ -28,10 +28,7 @@ pub struct Asked<'a> {
 fn chosen(c: Option<bool>, entry: bool) -> bool
     ensures { result ≡ chosen c entry }
 {
-    match c {
-        Some(b) => b,
-        None => entry,
-    }
+    c.unwrap_or(entry)
 }
 
 impl<'a> Asked<'a> {

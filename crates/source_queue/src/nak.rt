@@ -18,7 +18,7 @@ pub fn first_pair(n: usize, large: bool, start: usize) -> usize
     start.saturating_add(1 + 2 * size_width(large)).min(n)
 }
 
-// Stays: `judge` and `push_all` take the parts of a reader, since their callers have no more: an effect holds large, at and n, and no bytes.
+// Stays: `judge` and `push_all` take the parts of a reader and make it, as their contracts name them (`requests_from n large bytes at`).
 
 // What one pass over the requests finds.
 // Stays: a flag and a number, since `judge` promises the number where a request is invalid too.

@@ -42,6 +42,7 @@ pub(crate) fn no_steps() -> Burst
     }
 }
 
+// Stays: that sixteen places suffice is asked of another value here, in `moved` and in `gone_on`; an invariant of `Going` could not say it of a Burst, which is told apart from it.
 fn with_made(b: Burst, m: Made) -> Burst
     requires { b.count < 16 }
     ensures { result ≡ with_made b m }

@@ -40,7 +40,7 @@ pub struct Frame {
 
 // One request of a NAK: the bytes from start up to end.
 #[repr(C)]
-#[derive(Clone, Copy)]
+#[derive(Clone, Copy, PartialEq, Eq)]
 pub struct SegmentRequest {
     pub start: u64,
     pub end: u64,
@@ -49,7 +49,7 @@ pub struct SegmentRequest {
 // A Finished PDU's values.
 // Stays: numbers, as C has them; a handler's memory may hold any byte here, and each is a value.
 #[repr(C)]
-#[derive(Clone, Copy)]
+#[derive(Clone, Copy, PartialEq, Eq)]
 pub struct FinishedParams {
     pub condition: u8,
     pub delivery: u8,
@@ -90,7 +90,7 @@ pub struct RemoteEntityConfig {
 
 // Our own: the id, the fault action of each of sixteen conditions, the flags of two events, and the table, of which the first
 // `count` entries are looked at.
-// Stays: eight places and a count, as C has them; the actions are numbers, since a put is given any byte and refuses it (BadConfig).
+// Stays: eight places and a count, no heap, as `find_in` (rules, Put) looks through them; the actions are numbers, since a put is given any byte and refuses it (BadConfig).
 #[derive(Clone, Copy)]
 pub struct LocalEntityConfig {
     pub id: EntityId,
@@ -176,7 +176,7 @@ pub struct Queue {
 }
 
 // The cancel mark, whether its EOF is still owed, its condition; the expiry count; the Finished PDU's values; the Rust's anomaly count.
-// Stays: the condition is a number, which a user's cancel and document 01 give.
+// Stays: the condition is a number, which a user's cancel and document 01 give; each flag is one of the definitions' own (`marked`, `no_marks`).
 #[derive(Clone, Copy)]
 pub struct Marks {
     pub cancelled: bool,
@@ -221,6 +221,7 @@ pub struct Row {
 // ---- A step
 
 // What a step does: one case for each numbered item of document 01, the faults of items 6 and 7 by their action, with the condition.
+// Stays: a fault's condition is document 01's number (`fault_due`).
 #[derive(Clone, Copy)]
 pub enum Due {
     CancelEof,
@@ -299,6 +300,7 @@ pub enum Refusal {
 }
 
 // Of a delivery: how many of the delivered bytes are the PDU's, on a refusal too (0: Malformed).
+// Stays: an answer beside a number, which a refusal has too (`deliver_length`).
 #[derive(Clone, Copy)]
 pub struct Delivery {
     pub answer: Result<(), Refusal>,

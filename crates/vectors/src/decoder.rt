@@ -1,4 +1,5 @@
 // A decoder of its own for what the writers wrote: no code of the readers or writers is used, and CRC-16 goes by a byte-wise formula.
+// Stays: what stands in the readers and writers too, and its own numbers, since those are held against it.
 ghost use Rattle.std.specs.Prelude.{◌≤◌};
 
 use types::Head;

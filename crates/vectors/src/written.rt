@@ -49,6 +49,7 @@ pub fn data_vector(v: &mut Stream) -> bool {
     writes::<1024, 10, _>(h, data, want) && data_agrees(want, h, data)
 }
 
+// Stays: the codes and layouts here and in module `metadata` are the decoder's own numbers, since the writers are held against them.
 fn eof_agrees(pdu: &[u8], h: Head, want: Eof) -> bool {
     let Some(mut b) = decoder::body_of(pdu, h, false) else {
         return false;
