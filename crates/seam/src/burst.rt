@@ -44,7 +44,7 @@ fn flag_for(k: usize, expired: u8) -> u8
 }
 
 // At most `count` steps, the report of each in its place.
-// Stays: a loop over the memory beside the one over the state (source_step, going): a data step of 100 bytes by a call takes 824 instructions, a piece made in place 275, and a burst may take 60 percent of its calls.
+// Stays: a loop over the memory beside the one over the state (source_step, going): a data step of 100 bytes by a call takes 814 instructions, a piece made in place 275, and a burst may take 60 percent of its calls.
 fn run(
     h: &mut Handler,
     steps: &mut [Report; 16],
