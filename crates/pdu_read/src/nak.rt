@@ -1,11 +1,11 @@
 // A NAK's body and its requests read: any bytes are taken, and each function is equal to its definition (`rules_pdu`; the reader's in specs/).
 // 8 NAK: scope start, scope end, then pairs start, end, F bytes each; the scope is not judged.
 ghost use Rattle.std.specs.Prelude.{◌≡◌, ◌+◌, ◌≤◌, length};
-ghost use Rattle.std.specs.Iterator.{YieldsFirst, item_count};
+ghost use Rattle.std.specs.Iterator.{item_count};
 ghost use Rattle.basis.specs.Bytes.{num_at};
 ghost use Rattle.rules_pdu.specs.Numbers.{F};
 ghost use Rattle.rules_pdu.specs.Reading.{nak_in, request_at};
-ghost use Rattle.pdu_read.specs.Reader.{pair_at, left_of};
+ghost use Rattle.pdu_read.specs.Reader.{pair_at, left_of, GivesNext};
 
 use crate::field::{num_of, size_width};
 use basis::fields::four;
@@ -106,7 +106,7 @@ pub struct NakPduReader<'a> {
 impl<'a> Iterator for NakPduReader<'a> {
     type Item = SegmentRequest;
 
-    ghost next_gives = { YieldsFirst left_of };
+    ghost next_gives = { GivesNext };
 
     ghost remaining = { item_count left_of };
 
