@@ -5,53 +5,63 @@ ghost use Rattle.rules.specs.Deliver.{row_of, verdict_of};
 
 use types::{Meaning, Row, TransactionStep, Verdict};
 
+// A row for each step, in the order of their numbers.
+const TABLE: [Row; 7] = [
+    // Idle
+    Row {
+        nak: Verdict::Refuse,
+        ack: Verdict::Refuse,
+        finished: Verdict::NoEffect,
+        keepalive: Verdict::NoEffect,
+    },
+    // SendingMetadata
+    Row {
+        nak: Verdict::Refuse,
+        ack: Verdict::Refuse,
+        finished: Verdict::Refuse,
+        keepalive: Verdict::NoEffect,
+    },
+    // SendingFileData
+    Row {
+        nak: Verdict::Enqueue,
+        ack: Verdict::Refuse,
+        finished: Verdict::Refuse,
+        keepalive: Verdict::NoEffect,
+    },
+    // SendingEof
+    Row {
+        nak: Verdict::Enqueue,
+        ack: Verdict::Refuse,
+        finished: Verdict::Refuse,
+        keepalive: Verdict::NoEffect,
+    },
+    // WaitingForEofAck
+    Row {
+        nak: Verdict::Enqueue,
+        ack: Verdict::Move,
+        finished: Verdict::Refuse,
+        keepalive: Verdict::NoEffect,
+    },
+    // WaitingForFinished
+    Row {
+        nak: Verdict::Enqueue,
+        ack: Verdict::Refuse,
+        finished: Verdict::Move,
+        keepalive: Verdict::NoEffect,
+    },
+    // Closing
+    Row {
+        nak: Verdict::Refuse,
+        ack: Verdict::Refuse,
+        finished: Verdict::Refuse,
+        keepalive: Verdict::NoEffect,
+    },
+];
+
 fn row_of(step: TransactionStep) -> Row
     ensures { result ≡ row_of step }
 {
-    match step {
-        TransactionStep::Idle => Row {
-            nak: Verdict::Refuse,
-            ack: Verdict::Refuse,
-            finished: Verdict::NoEffect,
-            keepalive: Verdict::NoEffect,
-        },
-        TransactionStep::SendingMetadata => Row {
-            nak: Verdict::Refuse,
-            ack: Verdict::Refuse,
-            finished: Verdict::Refuse,
-            keepalive: Verdict::NoEffect,
-        },
-        TransactionStep::SendingFileData => Row {
-            nak: Verdict::Enqueue,
-            ack: Verdict::Refuse,
-            finished: Verdict::Refuse,
-            keepalive: Verdict::NoEffect,
-        },
-        TransactionStep::SendingEof => Row {
-            nak: Verdict::Enqueue,
-            ack: Verdict::Refuse,
-            finished: Verdict::Refuse,
-            keepalive: Verdict::NoEffect,
-        },
-        TransactionStep::WaitingForEofAck => Row {
-            nak: Verdict::Enqueue,
-            ack: Verdict::Move,
-            finished: Verdict::Refuse,
-            keepalive: Verdict::NoEffect,
-        },
-        TransactionStep::WaitingForFinished => Row {
-            nak: Verdict::Enqueue,
-            ack: Verdict::Refuse,
-            finished: Verdict::Move,
-            keepalive: Verdict::NoEffect,
-        },
-        TransactionStep::Closing => Row {
-            nak: Verdict::Refuse,
-            ack: Verdict::Refuse,
-            finished: Verdict::Refuse,
-            keepalive: Verdict::NoEffect,
-        },
-    }
+    TABLE[step as usize]
 }
 
 pub fn verdict_of(step: TransactionStep, m: Meaning) -> Verdict
