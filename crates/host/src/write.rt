@@ -1,5 +1,6 @@
 // The answers written, each field only where it fits; `run` keeps room for the whole record.
-ghost use Rattle.std.specs.Prelude.{◌≤◌};
+ghost use Rattle.std.specs.Prelude.{◌≡◌};
+ghost use Rattle.host.specs.Told.{bit, timer_bits, event_bits};
 
 use crate::kind::{ACK_TIMER, CHECK_TIMER, EOF_SENT, FAULT, FINISHED, TRANSACTION};
 use types::{Events, Made, Timer, TransactionId};
@@ -12,13 +13,13 @@ pub struct Answers<'a> {
 }
 
 fn flag(b: bool, v: u8) -> u8
-    ensures { result ≤ v }
+    ensures { result ≡ bit b v }
 {
     if b { v } else { 0 }
 }
 
 fn timer_bits(t: Option<Timer>) -> u8
-    ensures { result ≤ 32 }
+    ensures { result ≡ timer_bits t }
 {
     match t {
         None => 0,
@@ -27,12 +28,15 @@ fn timer_bits(t: Option<Timer>) -> u8
     }
 }
 
-fn event_bits(e: Events) -> u8 {
+#[tactic(auto, unfolding(crate::specs::Told::event_bits))]
+fn event_bits(e: Events) -> u8
+    ensures { result ≡ event_bits e }
+{
     flag(e.transaction, TRANSACTION)
-        | flag(e.eofsent, EOF_SENT)
-        | flag(e.fault.is_some(), FAULT)
-        | flag(e.finished.is_some(), FINISHED)
-        | timer_bits(e.timer)
+        + flag(e.eofsent, EOF_SENT)
+        + flag(e.fault.is_some(), FAULT)
+        + flag(e.finished.is_some(), FINISHED)
+        + timer_bits(e.timer)
 }
 
 impl<'a> Answers<'a> {

@@ -1,10 +1,23 @@
 // One line for each answer of the handler, and one more for each step of a burst; docs/HOST.md has the format of the answers.
 use crate::Ids;
-use host::kind::{
-    ACK_TIMER, CHECK_TIMER, END, EOF_SENT, FAULT, FINISHED, Kind, TRANSACTION, UnknownKind,
-};
+use host::kind::{Kind, UnknownKind};
 use std::io;
 use stream::Stream;
+
+// The numbers of docs/HOST.md, said here once more and not taken from `host`: what is printed is held to its code.
+const END: u8 = 255;
+
+const TRANSACTION: u8 = 1;
+
+const EOF_SENT: u8 = 2;
+
+const FAULT: u8 = 4;
+
+const FINISHED: u8 = 8;
+
+const ACK_TIMER: u8 = 16;
+
+const CHECK_TIMER: u8 = 32;
 
 // Where lines are printed, what is left of the answers, and how events tell the source id and number.
 #[derive(Drop)]
