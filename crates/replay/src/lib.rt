@@ -18,8 +18,8 @@ pub enum Ids {
 fn one(rt: &impl Print, file: &[u8], coded: &[u8], ids: Ids) -> io::Result<()> {
     // Stays: fixed buffers, which `host` reads and writes; of a longer list only what has room is made.
     let mut calls = [0u8; 65536];
-    let n = coded::spread(coded, &mut calls).min(calls.len());
     let mut answers = [0u8; 65536];
+    let n = coded::spread(coded, &mut calls).min(calls.len());
     let m = host::tsendrivaty_run(&calls[..n], file, &mut answers) as usize;
     say::lines(rt, &answers[..m.min(answers.len())], ids)
 }

@@ -42,9 +42,9 @@ fn one(kind: u8, v: &mut Stream) -> Option<bool> {
 }
 
 fn say(rt: &impl Print, label: &[u8], ok: bool) -> io::Result<()> {
-    let word = if ok { "ok" } else { "differs" };
+    let words = if ok { ": ok\n" } else { ": differs\n" };
     rt.write_all(label)?;
-    println!(rt; ": {word}")
+    rt.write_all(words.as_bytes())
 }
 
 // Every vector takes bytes, so there are no more of them than bytes.
