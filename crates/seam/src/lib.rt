@@ -82,8 +82,9 @@ pub extern "C" fn tsendrivaty_deliver(
     let s = state_of(state);
     let a = arrival_of(&s, bytes);
     let length = a.length as u64;
+    let code = store_effect(state, &s, bytes, a.effect);
     *report = DeliverReport { length };
-    store_effect(state, &s, bytes, a.effect)
+    code
 }
 
 // One step over the lent file; `expired` not 0: the timer has expired. The PDU stands in front of `out`, and the report says its length and the events.

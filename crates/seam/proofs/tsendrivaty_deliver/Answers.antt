@@ -7,5 +7,5 @@ use Rattle.seam.proofs.tsendrivaty_deliver.Goals as goal
 pub returns : goal.returns
 returns c =
     let a = c.args in
-    let k = deliver-told a.state.now a.bytes.now _ c.arrival_of-a.result _ c.state_of-s.ensures c.arrival_of-a.ensures c.store_effect.ensures in
+    let k = deliver-told a.state.now a.bytes.now _ c.arrival_of-a.result _ c.state_of-s.ensures c.arrival_of-a.ensures c.store_effect-code.ensures in
     (ap (λ (d : DeliverDone). d.held) k, ap (λ (d : DeliverDone). d.report) k, ap (λ (d : DeliverDone). d.code) k)
