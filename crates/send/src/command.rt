@@ -1,59 +1,76 @@
 // From the words to the summary: nothing is written before all is well.
-use crate::files::Word;
+use crate::frames::Frames;
 use crate::output::Output;
 use crate::run::{Given, Pass};
-use crate::{capture, files, frames, put};
+use crate::{capture, files, put};
 use send_text::tell;
 use send_text::tell::Wrong;
-use send_text::words::{Named, Words};
+use send_text::words::{FILE, LONGEST, Words};
+use std::env::FillError;
 use std::fs::File;
+use std::rt::Env;
 use types::State;
 
 // Argument 0 is the program and 1 the file, unless a call for help takes its place.
-pub fn command(rt: &HostRuntime) -> Result<(), Wrong<'static>> {
-    let all = files::words(rt)?;
-    match all.as_slice() {
-        [_, file, words @ ..] if name_in(file) != b"--help".as_slice() => {
-            if let Err(e) = with_words(rt, name_in(file), words) {
-                tell::complain(rt, e);
-            }
-        }
-        _ => tell::usage(rt),
+pub fn command(rt: &HostRuntime) -> Result<(), Wrong> {
+    if helps(rt) {
+        tell::usage(rt);
+        return Ok(());
     }
-    Ok(())
+    with_words(rt, words_in(rt)?)
 }
 
-// A file's name that is too long counts as none.
-fn name_in(word: &Word) -> &[u8] {
-    word.as_deref().unwrap_or(&[])
+// There is no file, or a call for help in its place.
+fn helps(rt: &HostRuntime) -> bool {
+    let mut word = [0u8; LONGEST];
+    match rt.arg(1, &mut word) {
+        Ok(n) => &word[..n] == b"--help".as_slice(),
+        Err(FillError::TooLong) => false,
+        Err(FillError::NotPresent) => true,
+    }
 }
 
 // After a wrong word the others are not looked at.
-fn words_in(all: &[Word]) -> Result<Words<'_>, Wrong<'_>> {
+// Stays: a count, and a fixed buffer for one word at a time: std's `args` takes no word that is not text, and holds all of them.
+fn words_in(rt: &HostRuntime) -> Result<Words, Wrong> {
     let mut w = Words::default();
-    for word in all {
-        let Some(bytes) = word else {
-            return Err(Wrong::LongWord(files::LONGEST));
-        };
-        let bytes = bytes.as_slice();
-        w.take(bytes).map_err(|e| Wrong::Word(bytes, e))?;
+    let mut word = [0u8; LONGEST];
+    for i in 2..usize::MAX {
+        match rt.arg(i, &mut word) {
+            Ok(n) => w.take(i, &word[..n]).map_err(|e| Wrong::Word(i, e))?,
+            Err(FillError::TooLong) => return Err(Wrong::LongWord),
+            Err(FillError::NotPresent) => break,
+        }
     }
     Ok(w)
 }
 
-fn with_words<'a>(rt: &HostRuntime, name: &'a [u8], words: &'a [Word]) -> Result<(), Wrong<'a>> {
-    let w = words_in(words)?;
-    // the whole word is the name
-    let file = files::load(rt, Named { word: name, name }, 1048576)?;
-    let bytes = match w.answers {
-        Some(named) => files::load(rt, named, 65536)?,
-        None => Vec::new(rt.alloc()),
-    };
-    let answers = frames::frames(rt.alloc(), bytes.as_slice())?.ok_or(Wrong::CutAnswer)?;
-    let state = put::put(w, name, file.len())?;
+// Stays: fixed buffers for the file and the answers, so that a pass needs no heap.
+fn with_words(rt: &HostRuntime, w: Words) -> Result<(), Wrong> {
+    let mut space = [0u8; 1048576];
+    with_space(rt, w, &mut space)
+}
+
+fn with_space(rt: &HostRuntime, w: Words, space: &mut [u8; 1048576]) -> Result<(), Wrong> {
+    let mut answers_space = [0u8; 65536];
+    let file = files::load(rt, FILE, space)?;
+    let answers = files::load_if(rt, w.answers, &mut answers_space)?;
+    with_files(rt, w, file, answers)
+}
+
+fn with_files<'a>(
+    rt: &HostRuntime,
+    w: Words,
+    file: &'a [u8],
+    answers: &'a [u8],
+) -> Result<(), Wrong> {
+    let answers = Frames(answers);
+    let count = answers.count().ok_or(Wrong::CutAnswer)?;
+    let state = put::put(rt, w, file.len())?;
     let given = Given {
-        file: file.as_slice(),
-        answers: answers.as_slice(),
+        file,
+        answers,
+        count,
         timed: w.limit.is_some(),
         burst: w.burst,
     };
@@ -62,12 +79,7 @@ fn with_words<'a>(rt: &HostRuntime, name: &'a [u8], words: &'a [Word]) -> Result
 
 // Stays: words, what is given and the state go on apart: each function takes what the next one needs, and the last ones take them into a pass.
 // The output is opened last, when all else is well; where it is none, that is said before the capture is closed.
-fn with_state<'a>(
-    rt: &HostRuntime,
-    w: Words<'a>,
-    given: Given<'_>,
-    state: State,
-) -> Result<(), Wrong<'a>> {
+fn with_state(rt: &HostRuntime, w: Words, given: Given<'_>, state: State) -> Result<(), Wrong> {
     let capture = w.pcap.map(|named| capture::open(rt, named)).transpose()?;
     if let Err(e) = with_capture(rt, w, given, state, capture.as_ref()) {
         tell::complain(rt, e);
@@ -76,33 +88,28 @@ fn with_state<'a>(
     Ok(())
 }
 
-fn with_capture<'a, 'b>(
-    rt: &'b HostRuntime,
-    w: Words<'a>,
+fn with_capture<'a>(
+    rt: &'a HostRuntime,
+    w: Words,
     given: Given<'_>,
     state: State,
-    capture: Option<&'b File>,
-) -> Result<(), Wrong<'a>> {
+    capture: Option<&'a File>,
+) -> Result<(), Wrong> {
     let file = w.out.map(|named| files::open_over(rt, named)).transpose()?;
-    let output = Output {
-        rt,
-        form: w.form,
-        file: file.as_ref(),
-        capture,
-    };
+    let output = Output::new(rt, w.form, file.as_ref(), capture);
     pass(given, output, state);
     close(rt, file, "output");
     Ok(())
 }
 
 fn pass<'a>(given: Given<'a>, output: Output<'a>, state: State) {
+    let rt = output.rt;
+    let all = given.count;
     let mut pass = Pass::new(given, output, state);
     pass.go();
-    let rt = output.rt;
     let tally = pass.tally;
     tell::line(rt, format_args!("{tally}"));
     tell::waits(rt, pass.state.step);
-    let all = given.answers.len();
     let left = all.saturating_sub(pass.delivered);
     if left > 0 {
         tell::line(rt, format_args!("{left} of {all} answers were not used"));

@@ -3,64 +3,98 @@ use crate::capture;
 use send_text::pdu::{Received, Sent};
 use send_text::text::{Hex, hex_line};
 use send_text::words::Form;
-use std::alloc::{AllocError, Global};
+use std::fmt::Display;
 use std::fs::File;
 use std::io;
-use std::io::Write;
+use std::io::{Cursor, Write};
 use types::Refusal;
 
-// The output (none: standard output) and its form, and the capture.
-#[derive(Clone, Copy)]
+// How many bytes are written at once at most: a line has 3 + 8,192 + 2 before its meaning, which has under 1,200, and no PDU that leaves is longer than
+// 4,096.
+const MOST: usize = 10240;
+
+// The output (none: standard output) and its form, the capture, and the space in which all that one call writes is put together first.
+// Stays: a space of fixed length, so that no pass ends for want of memory, and none is made anew for each PDU.
+#[derive(Drop)]
 pub struct Output<'a> {
     pub rt: &'a HostRuntime,
-    pub form: Form,
-    pub file: Option<&'a File>,
-    pub capture: Option<&'a File>,
+    form: Form,
+    file: Option<&'a File>,
+    capture: Option<&'a File>,
+    space: [u8; MOST],
 }
 
-// A PDU behind two bytes of its length, highest first.
-fn framed(alloc: Global, pdu: &[u8]) -> Result<Vec<u8>, AllocError> {
-    let mut out = Vec::new(alloc);
-    out.extend_from_slice(&pdu.len().to_be_bytes()[6..])?;
-    out.extend_from_slice(pdu)?;
-    Ok(out)
+// A PDU behind two bytes of its length, highest first, in front of space, and how many bytes that is.
+fn lay_framed(space: &mut [u8], pdu: &[u8]) -> io::Result<u64> {
+    let mut out = Cursor::new(space);
+    out.write_all(&pdu.len().to_be_bytes()[6..])?;
+    out.write_all(pdu)?;
+    Ok(out.position())
 }
 
-impl Output<'_> {
-    fn put(self, bytes: &[u8]) -> io::Result<()> {
+fn lay_line<D: Display + Drop>(space: &mut [u8], line: D) -> io::Result<u64> {
+    let mut out = Cursor::new(space);
+    writeln!(out, "{line}")?;
+    Ok(out.position())
+}
+
+impl<'a> Output<'a> {
+    pub fn new(
+        rt: &'a HostRuntime,
+        form: Form,
+        file: Option<&'a File>,
+        capture: Option<&'a File>,
+    ) -> Self {
+        Output {
+            rt,
+            form,
+            file,
+            capture,
+            space: [0; MOST],
+        }
+    }
+
+    // Writes the first n bytes of the space.
+    fn put(&self, n: u64) -> io::Result<()> {
+        let bytes = self.space.get(..n as usize).unwrap_or(&[]);
         match self.file {
             None => self.rt.stdout().write_all(bytes),
             Some(mut file) => file.write_all(bytes),
         }
     }
 
+    fn put_framed(&mut self, pdu: &[u8]) -> io::Result<()> {
+        let n = lay_framed(&mut self.space, pdu)?;
+        self.put(n)
+    }
+
+    fn put_line<D: Display + Drop>(&mut self, line: D) -> io::Result<()> {
+        let n = lay_line(&mut self.space, line)?;
+        self.put(n)
+    }
+
     // A PDU that leaves.
-    pub fn write(self, pdu: &[u8], repair: bool) -> io::Result<()> {
-        let alloc = self.rt.alloc();
+    pub fn write(&mut self, pdu: &[u8], repair: bool) -> io::Result<()> {
         match self.form {
-            Form::Framed => self.put(framed(alloc, pdu)?.as_slice()),
-            Form::Hex => self.put(format!(in alloc; "{}\n", Hex(pdu))?.as_bytes()),
-            Form::Said => {
-                let line = hex_line(alloc, "->", pdu, Sent { pdu, repair })?;
-                self.put(line.as_bytes())
-            }
+            Form::Framed => self.put_framed(pdu),
+            Form::Hex => self.put_line(Hex(pdu)),
+            Form::Said => self.put_line(hex_line("->", pdu, Sent { pdu, repair })),
         }
     }
 
     // With the meaning, what comes is shown too.
-    pub fn show(self, pdu: &[u8], answer: Result<(), Refusal>) -> io::Result<()> {
+    pub fn show(&mut self, pdu: &[u8], answer: Result<(), Refusal>) -> io::Result<()> {
         if self.form != Form::Said {
             return Ok(());
         }
-        let line = hex_line(self.rt.alloc(), "<-", pdu, Received { pdu, answer })?;
-        self.put(line.as_bytes())
+        self.put_line(hex_line("<-", pdu, Received { pdu, answer }))
     }
 
     // PDU number k of the pass, counted from 0, whole in the capture; nothing where there is none.
-    pub fn keep(self, k: u64, pdu: &[u8]) -> io::Result<()> {
+    pub fn keep(&mut self, k: u64, pdu: &[u8]) -> io::Result<()> {
         let Some(file) = self.capture else {
             return Ok(());
         };
-        capture::keep(self.rt.alloc(), file, k, pdu)
+        capture::keep(file, k, pdu, &mut self.space)
     }
 }

@@ -1,5 +1,6 @@
 // One pass: put, then step after step until the handler is idle or waits for an answer that nobody gives. An answer is delivered after each
 // step that emits nothing; with a limit, and no answer left, such a step is made again with the timer expired.
+use crate::frames::Frames;
 use crate::output::Output;
 use send_text::pdu::sum_of;
 use send_text::tell;
@@ -13,23 +14,34 @@ use types::{Burst, Events, Made, Refusal, State};
 #[derive(Clone, Copy)]
 pub struct Given<'a> {
     pub file: &'a [u8],
-    pub answers: &'a [&'a [u8]],
+    pub answers: Frames<'a>,
+    // how many answers there are
+    pub count: usize,
     // the timer expires
     pub timed: bool,
     // steps a call, 0: no bursts
     pub burst: u8,
 }
 
-// The handler, how many answers were delivered, the timer, whether to go on, and what has left.
-#[derive(Clone, Copy)]
+// The handler, the answers that are left, how many were delivered, the timer, whether to go on, and what has left.
+#[derive(Drop)]
 pub struct Pass<'a> {
     given: Given<'a>,
     output: Output<'a>,
     pub state: State,
+    answers: Frames<'a>,
     pub delivered: usize,
     expired: bool,
     going: bool,
     pub tally: Tally,
+}
+
+// What a pass was before a burst: the handler, the timer, and how many PDUs had left.
+#[derive(Clone, Copy)]
+struct Before {
+    state: State,
+    expired: bool,
+    pdus: u64,
 }
 
 impl<'a> Pass<'a> {
@@ -38,6 +50,7 @@ impl<'a> Pass<'a> {
             given,
             output,
             state,
+            answers: given.answers,
             delivered: 0,
             expired: false,
             going: true,
@@ -120,13 +133,14 @@ impl<'a> Pass<'a> {
         }
     }
 
-    fn deliver(&mut self, pdu: &[u8]) {
+    fn deliver(&mut self, pdu: &[u8], behind: Frames<'a>) {
         let d = source::deliver(&mut self.state, pdu);
         let number = self.delivered.saturating_add(1);
         self.say_answer(number, d.answer, d.length, pdu.len());
         match self.output.show(pdu, d.answer) {
             Ok(()) => {
                 let k = self.passed();
+                self.answers = behind;
                 self.delivered = number;
                 self.expired = false;
                 self.keep(k, pdu);
@@ -145,8 +159,8 @@ impl<'a> Pass<'a> {
         self.state = state;
         if is_idle(state.step) {
             self.going = false;
-        } else if let Some(pdu) = self.given.answers.get(self.delivered) {
-            self.deliver(pdu);
+        } else if let Some((pdu, behind)) = self.answers.first() {
+            self.deliver(pdu, behind);
         } else {
             // goes on only with the timer, once
             self.going = self.given.timed && !self.expired;
@@ -207,8 +221,8 @@ impl<'a> Pass<'a> {
     }
 
     // A write failed within a burst: the state behind the PDUs that are whole, which the same steps make again.
-    fn cut(&mut self, before: Pass<'a>) {
-        let whole = self.tally.pdus.saturating_sub(before.tally.pdus) as usize;
+    fn cut(&mut self, before: Before) {
+        let whole = self.tally.pdus.saturating_sub(before.pdus) as usize;
         let mut space = [0u8; 65536];
         self.state = before.state;
         let _ = source::burst(
@@ -229,7 +243,11 @@ impl<'a> Pass<'a> {
     }
 
     fn burst_accepted(&mut self, state: State, b: Burst, space: &[u8]) {
-        let before = *self;
+        let before = Before {
+            state: self.state,
+            expired: self.expired,
+            pdus: self.tally.pdus,
+        };
         self.lay(state, b, space);
         if self.going {
             self.behind(b.steps[b.count.saturating_sub(1).min(15)], state);

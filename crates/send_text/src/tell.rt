@@ -2,10 +2,9 @@
 // error takes none, the program goes on.
 use crate::code;
 use crate::code::Finished;
-use crate::words::BadWord;
-use std::alloc::{AllocError, Global};
-use std::fmt::Display;
-use std::io::{Error, Write};
+use crate::words::{BadWord, LONGEST, Named};
+use std::fmt::{Display, InlineText};
+use std::io::{Cursor, Error, Write};
 use std::{fmt, io};
 use types::{Events, Fault, Refusal, TransactionStep};
 
@@ -16,96 +15,90 @@ pub fn line<D: Display + Drop>(rt: &HostRuntime, text: D) {
 
 // ---- what is wrong
 
-// Why a pass is not made. A word and a file stand here as the command line has them.
+// Why a pass is not made. A word and a file stand here by the number of their argument.
 #[derive(Clone, Copy)]
-pub enum Wrong<'a> {
-    // how many bytes a word may have
-    LongWord(usize),
-    Word(&'a [u8], BadWord),
-    File(&'a [u8], Error),
+pub enum Wrong {
+    LongWord,
+    Word(usize, BadWord),
+    File(usize, Error),
     // how many bytes it may have
-    LargeFile(&'a [u8], usize),
+    LargeFile(usize, usize),
     CutAnswer,
     Put(Refusal),
     Capture(Error),
-    NoMemory,
 }
 
-impl From<AllocError> for Wrong<'_> {
-    fn from(_e: AllocError) -> Self {
-        Wrong::NoMemory
-    }
-}
-
-impl From<Refusal> for Wrong<'_> {
+impl From<Refusal> for Wrong {
     fn from(r: Refusal) -> Self {
         Wrong::Put(r)
     }
 }
 
-pub fn complain(rt: &HostRuntime, w: Wrong<'_>) {
+pub fn complain(rt: &HostRuntime, w: Wrong) {
     match w {
-        Wrong::LongWord(most) => { line(rt, format_args!("a word is longer than {most} bytes")) }
-        Wrong::Word(word, BadWord::Unknown) => about(rt, "unknown word: ", word, ""),
-        Wrong::Word(word, BadWord::Value) => about(rt, "bad value: ", word, ""),
-        Wrong::File(word, e) => failed(rt, word, e),
-        Wrong::LargeFile(word, most) => {
-            about(rt, "", word, format_args!(": larger than {most} bytes"))
-        }
+        Wrong::LongWord => line(rt, format_args!("a word is longer than {LONGEST} bytes")),
+        Wrong::Word(i, BadWord::Unknown) => about(rt, "unknown word: ", i, ""),
+        Wrong::Word(i, BadWord::Value) => about(rt, "bad value: ", i, ""),
+        Wrong::File(i, e) => failed(rt, i, e),
+        Wrong::LargeFile(i, most) => about(rt, "", i, format_args!(": larger than {most} bytes")),
         Wrong::CutAnswer => line(rt, "the last answer is cut short; nothing was sent"),
         Wrong::Put(r) => refused(rt, "put", r),
         Wrong::Capture(e) => cut_short(rt, "capture", 0, e),
-        Wrong::NoMemory => line(rt, "out of memory"),
     }
 }
 
 // A line with a word as it came, which need be no text.
+// Stays: fixed buffers, so that what is wrong is said without a heap. A word has at most 4,096 bytes, and what stands about it under 512.
 fn joined<D: Display + Drop>(
-    alloc: Global,
+    out: &mut Cursor<[u8; 4608]>,
     before: &str,
     word: &[u8],
     after: D,
-) -> io::Result<Vec<u8>> {
-    let mut out = Vec::new(alloc);
+) -> io::Result<()> {
     write!(out, "send: {before}")?;
-    out.extend_from_slice(word)?;
-    writeln!(out, "{after}")?;
-    Ok(out)
+    out.write_all(word)?;
+    writeln!(out, "{after}")
 }
 
-fn about<D: Display + Drop>(rt: &HostRuntime, before: &str, word: &[u8], after: D) {
-    if let Ok(out) = joined(rt.alloc(), before, word, after) {
-        let _ = rt.stderr().write_all(out.as_slice());
+fn about<D: Display + Drop>(rt: &HostRuntime, before: &str, argument: usize, after: D) {
+    let mut space = [0u8; LONGEST];
+    let word = Named { argument, start: 0 }.read(rt, &mut space);
+    let mut out = Cursor::new([0u8; 4608]);
+    let _ = joined(&mut out, before, word, after);
+    let n = out.position() as usize;
+    let _ = rt.stderr().write_all(out.get_ref().get(..n).unwrap_or(&[]));
+}
+
+// Why the system refuses something, in its words, without the number that std sets behind them.
+#[derive(Clone, Copy)]
+struct Reason(Error);
+
+impl fmt::Display for Reason {
+    fn fmt<W: fmt::Write>(&self, f: &mut fmt::Formatter<W>) -> fmt::Result {
+        // std's words have at most 256 bytes
+        let text = InlineText::<288>::of(self.0);
+        let words = text.as_str();
+        f.write_str(
+            words
+                .split_once(" (os error ")
+                .map_or(words, |(words, _)| words),
+        )
     }
-}
-
-// The system's words, without the number that std sets behind them.
-fn words_of(text: &str) -> &str {
-    text.split_once(" (os error ")
-        .map_or(text, |(words, _)| words)
 }
 
 // A file that the system refuses, with its reason.
-fn failed(rt: &HostRuntime, word: &[u8], e: Error) {
-    if let Ok(reason) = e.to_string(rt.alloc()) {
-        about(
-            rt,
-            "",
-            word,
-            format_args!(": {}", words_of(reason.as_str())),
-        );
-    }
+fn failed(rt: &HostRuntime, argument: usize, e: Error) {
+    let reason = Reason(e);
+    about(rt, "", argument, format_args!(": {reason}"));
 }
 
 // A write failed: how much there is of the output or the capture, and the system's reason.
 pub fn cut_short(rt: &HostRuntime, what: &str, pdus: u64, e: Error) {
-    if let Ok(reason) = e.to_string(rt.alloc()) {
-        let reason = words_of(reason.as_str());
-        line(
-            rt,
-            format_args!("the {what} ends after {pdus} whole PDUs: {reason}"),
-        );
-    }
+    let reason = Reason(e);
+    line(
+        rt,
+        format_args!("the {what} ends after {pdus} whole PDUs: {reason}"),
+    );
 }
 
 pub fn refused<D: Display + Drop>(rt: &HostRuntime, what: D, r: Refusal) {

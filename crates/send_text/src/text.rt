@@ -1,7 +1,23 @@
 // Bytes and names as they are read.
-use std::alloc::{AllocError, Global};
+ghost use Rattle.std.specs.Prelude.{◌≤◌};
+
 use std::fmt;
 use std::str::from_utf8;
+
+const DIGITS: &[u8; 16] = b"0123456789abcdef";
+
+// The digits of a piece's bytes, 32 at most, and how many they are.
+fn put_digits(digits: &mut [u8; 64], piece: &[u8]) -> usize
+    ensures { result ≤ 64 }
+{
+    let n = piece.len().min(32);
+    for i in 0..n {
+        let b = piece[i];
+        digits[2 * i] = DIGITS[usize::from(b / 16)];
+        digits[2 * i + 1] = DIGITS[usize::from(b % 16)];
+    }
+    2 * n
+}
 
 // Bytes in hex, in lower case.
 #[derive(Clone, Copy)]
@@ -9,8 +25,11 @@ pub struct Hex<'a>(pub &'a [u8]);
 
 impl fmt::Display for Hex<'_> {
     fn fmt<W: fmt::Write>(&self, f: &mut fmt::Formatter<W>) -> fmt::Result {
-        for b in self.0 {
-            write!(f, "{b:02x}")?;
+        // Stays: a fixed buffer for the digits of a few bytes, since a write for each byte costs more than its digits.
+        let mut digits = [0u8; 64];
+        for piece in self.0.chunks(32) {
+            let n = put_digits(&mut digits, piece);
+            f.write_str(from_utf8(&digits[..n]).map_err(|_| fmt::Error)?)?;
         }
         Ok(())
     }
@@ -29,15 +48,30 @@ impl fmt::Display for Name<'_> {
     }
 }
 
-// A line: a mark, the first 4,096 bytes in hex, dots for the others, and the meaning, behind a blank at least, from column 44 on.
-pub fn hex_line<D: fmt::Display + Drop>(
-    alloc: Global,
-    mark: &str,
-    pdu: &[u8],
+// A line without its end: a mark, the first 4,096 bytes in hex, dots for the others, and the meaning, behind a blank at least, from column 44 on.
+#[derive(Drop)]
+pub struct HexLine<'a, D> {
+    mark: &'a str,
+    pdu: &'a [u8],
     meaning: D,
-) -> Result<String, AllocError> {
-    let front = pdu.get(..4096).unwrap_or(pdu);
-    let dots = if front.len() < pdu.len() { ".." } else { "" };
-    let hex = format!(in alloc; "{}{dots}", Hex(front))?;
-    format!(in alloc; "{mark} {hex:<40} {meaning}\n")
+}
+
+pub fn hex_line<'a, D>(mark: &'a str, pdu: &'a [u8], meaning: D) -> HexLine<'a, D> {
+    HexLine { mark, pdu, meaning }
+}
+
+impl<D: fmt::Display> fmt::Display for HexLine<'_, D> {
+    fn fmt<W: fmt::Write>(&self, f: &mut fmt::Formatter<W>) -> fmt::Result {
+        let front = self.pdu.get(..4096).unwrap_or(self.pdu);
+        let dots = if front.len() < self.pdu.len() {
+            ".."
+        } else {
+            ""
+        };
+        let gap = 40usize.saturating_sub(front.len().saturating_mul(2));
+        let mark = self.mark;
+        let hex = Hex(front);
+        let meaning = &self.meaning;
+        write!(f, "{mark} {hex}{dots}{:gap$} {meaning}", "")
+    }
 }

@@ -1,5 +1,10 @@
 // The words of the command line. Any bytes at all are taken; what is no word, or no value of its word, is answered so.
 use crate::decimal::number;
+use std::rt::Env;
+
+// How many bytes a word may have.
+// Stays: a word is read into a fixed buffer of that length wherever it is looked at, so that no memory grows with the command line.
+pub const LONGEST: usize = 4096;
 
 // In which form PDUs are written: framed, in hex, or in hex with their meaning.
 #[derive(Clone, Copy, PartialEq, Eq, PartialOrd, Ord)]
@@ -9,16 +14,30 @@ pub enum Form {
     Said,
 }
 
-// A word that gives the name of a file: its bytes, and the name in it.
+// A word that gives the name of a file: which argument it is, and where the name begins in it.
 #[derive(Clone, Copy)]
-pub struct Named<'a> {
-    pub word: &'a [u8],
-    pub name: &'a [u8],
+pub struct Named {
+    pub argument: usize,
+    pub start: usize,
+}
+
+// Argument 1, which is the name of the file to be sent.
+pub const FILE: Named = Named {
+    argument: 1,
+    start: 0,
+};
+
+impl Named {
+    // The name, read into a buffer. Where the argument is longer than that, it counts as an empty one.
+    pub fn read<'b>(self, rt: &HostRuntime, word: &'b mut [u8]) -> &'b [u8] {
+        let n = rt.arg(self.argument, word).unwrap_or(0);
+        word.get(self.start..n).unwrap_or(&[])
+    }
 }
 
 // What the words ask for.
 #[derive(Clone, Copy)]
-pub struct Words<'a> {
+pub struct Words {
     pub from: u64,
     pub to: u64,
     pub number: u64,
@@ -36,14 +55,14 @@ pub struct Words<'a> {
     pub crc: bool,
     pub checksum: u8,
     pub form: Form,
-    pub source: Option<Named<'a>>,
-    pub dest: Option<Named<'a>>,
-    pub out: Option<Named<'a>>,
-    pub pcap: Option<Named<'a>>,
-    pub answers: Option<Named<'a>>,
+    pub source: Option<Named>,
+    pub dest: Option<Named>,
+    pub out: Option<Named>,
+    pub pcap: Option<Named>,
+    pub answers: Option<Named>,
 }
 
-impl Default for Words<'_> {
+impl Default for Words {
     fn default() -> Self {
         Words {
             from: 1,
@@ -76,29 +95,29 @@ pub enum BadWord {
     Value,
 }
 
-impl<'a> Words<'a> {
-    // Takes a word in. Of a word that is given twice the last one counts, but for the form, where the one that shows most does.
-    pub fn take(&mut self, word: &'a [u8]) -> Result<(), BadWord> {
+impl Words {
+    // Takes an argument in, whose bytes are the word. Of a word that is given twice the last one counts, but for the form, where the one that shows most
+    // does.
+    pub fn take(&mut self, argument: usize, word: &[u8]) -> Result<(), BadWord> {
         match word {
             b"--hex" => self.form = self.form.max(Form::Hex),
             b"--say" => self.form = Form::Said,
-            _ => return self.take_value(word),
+            _ => return self.take_value(argument, word),
         }
         Ok(())
     }
 
     // A word and its value, with the '=' between them.
-    fn take_value(&mut self, word: &'a [u8]) -> Result<(), BadWord> {
+    fn take_value(&mut self, argument: usize, word: &[u8]) -> Result<(), BadWord> {
         let Some(at) = word.iter().position(|b| *b == b'=') else {
             return Err(BadWord::Unknown);
         };
-        let name = &word[at + 1..];
-        self.set(&word[..at], Named { word, name })
+        let start = at + 1;
+        self.set(&word[..at], &word[start..], Named { argument, start })
     }
 
     // A width and a limit are bytes, and a burst has at most sixteen steps.
-    fn set(&mut self, key: &[u8], given: Named<'a>) -> Result<(), BadWord> {
-        let value = given.name;
+    fn set(&mut self, key: &[u8], value: &[u8], given: Named) -> Result<(), BadWord> {
         match key {
             b"from" => self.from = any(value)?,
             b"to" => self.to = any(value)?,
