@@ -5,8 +5,8 @@ ghost use Rattle.seam.specs.Told.{heard_done};
 use crate::answer::code_of;
 use crate::events::no_report;
 use crate::stored::store_light;
-use seam_rules::memory::Handler;
-use source_deliver::effect::{Effect, moved_by, moves_queue, queue_by};
+use seam_rules::memory::{DeliverReport, Handler};
+use source_deliver::effect::{Arrival, Effect, moved_by, moves_queue, queue_by};
 use types::{Refusal, State};
 
 // The code; a refusal stores nothing. s is the state before the delivery.
@@ -30,5 +30,14 @@ pub(crate) fn store_effect(
             0
         }
         Err(k) => code_of(Err(k)),
+    }
+}
+
+// What a delivery says, a refused one too: how many of its bytes are the PDU's.
+pub(crate) fn told(a: &Arrival) -> DeliverReport
+    ensures { result ≡ record { length = a.now.length } }
+{
+    DeliverReport {
+        length: a.length as u64,
     }
 }

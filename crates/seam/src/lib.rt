@@ -16,7 +16,7 @@ ghost use Rattle.std.specs.Prelude.{◌≡◌};
 ghost use Rattle.seam_rules.specs.Seam.{new_done, put_done, deliver_done, step_done, step_out, burst_done, burst_out, cancel_done, reset_done};
 
 use crate::answer::{store_accepted, store_word};
-use crate::deliver::store_effect;
+use crate::deliver::{store_effect, told};
 use crate::events::no_report;
 use crate::step::store_outcome;
 use crate::stored::store;
@@ -81,9 +81,9 @@ pub extern "C" fn tsendrivaty_deliver(
 {
     let s = state_of(state);
     let a = arrival_of(&s, bytes);
-    let length = a.length as u64;
+    let r = told(&a);
     let code = store_effect(state, &s, bytes, a.effect);
-    *report = DeliverReport { length };
+    *report = r;
     code
 }
 
