@@ -15,7 +15,7 @@ const MOST: usize = 10240;
 
 // The output (none: standard output) and its form, the capture, and the space in which all that one call writes is put together first.
 // Stays: a space of fixed length, so that no pass ends for want of memory, and none is made anew for each PDU.
-#[derive(Drop)]
+#[derive(Clone, Copy)]
 pub struct Output<'a> {
     pub rt: &'a HostRuntime,
     form: Form,

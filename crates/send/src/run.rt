@@ -24,7 +24,7 @@ pub struct Given<'a> {
 }
 
 // The handler, the answers that are left, how many were delivered, the timer, whether to go on, and what has left.
-#[derive(Drop)]
+#[derive(Clone, Copy)]
 pub struct Pass<'a> {
     given: Given<'a>,
     output: Output<'a>,

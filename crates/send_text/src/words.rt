@@ -1,4 +1,6 @@
 // The words of the command line. Any bytes at all are taken; what is no word, or no value of its word, is answered so.
+ghost use Rattle.std.specs.Prelude.{◌≤◌, length};
+
 use crate::decimal::number;
 use std::rt::Env;
 
@@ -29,7 +31,9 @@ pub const FILE: Named = Named {
 
 impl Named {
     // The name, read into a buffer. Where the argument is longer than that, it counts as an empty one.
-    pub fn read<'b>(self, rt: &HostRuntime, word: &'b mut [u8]) -> &'b [u8] {
+    pub fn read<'b>(self, rt: &HostRuntime, word: &'b mut [u8]) -> &'b [u8]
+        ensures { length result.now ≤ length word.old }
+    {
         let n = rt.arg(self.argument, word).unwrap_or(0);
         word.get(self.start..n).unwrap_or(&[])
     }
