@@ -1,7 +1,7 @@
 // A capture of the pass for packet readers: classic pcap, highest byte first, link type 147 (USER0). There is no clock: record k, counted from 0, has the
 // time of k microseconds.
 use crate::files;
-use send_text::tell::Wrong;
+use send_text::tell::WrongAt;
 use send_text::words::Named;
 use std::fs::File;
 use std::io;
@@ -12,9 +12,9 @@ const HEADER: &[u8] =
     b"\xa1\xb2\xc3\xd4\x00\x02\x00\x04\x00\x00\x00\x00\x00\x00\x00\x00\x00\x00\xff\xff\x00\x00\x00\x93";
 
 // The capture, begun anew.
-pub fn open(rt: &HostRuntime, named: Named) -> Result<File, Wrong> {
+pub fn open(rt: &HostRuntime, named: Named) -> Result<File, WrongAt> {
     let mut file = files::open_over(rt, named)?;
-    file.write_all(HEADER).map_err(|e| Wrong::Capture(e))?;
+    file.write_all(HEADER).map_err(|e| WrongAt::Capture(e))?;
     Ok(file)
 }
 

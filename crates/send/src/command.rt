@@ -4,7 +4,7 @@ use crate::output::Output;
 use crate::run::{Given, Pass};
 use crate::{capture, files, put};
 use send_text::tell;
-use send_text::tell::Wrong;
+use send_text::tell::WrongAt;
 use send_text::words::{FILE, LONGEST, Words};
 use std::env::FillError;
 use std::fs::File;
@@ -12,7 +12,7 @@ use std::rt::Env;
 use types::State;
 
 // Argument 0 is the program and 1 the file, unless a call for help takes its place.
-pub fn command(rt: &HostRuntime) -> Result<(), Wrong> {
+pub fn command(rt: &HostRuntime) -> Result<(), WrongAt> {
     if helps(rt) {
         tell::usage(rt);
         return Ok(());
@@ -32,13 +32,13 @@ fn helps(rt: &HostRuntime) -> bool {
 
 // After a wrong word the others are not looked at.
 // Stays: a count, and a fixed buffer for one word at a time: std's `args` takes no word that is not text, and holds all of them.
-fn words_in(rt: &HostRuntime) -> Result<Words, Wrong> {
+fn words_in(rt: &HostRuntime) -> Result<Words, WrongAt> {
     let mut w = Words::default();
     let mut word = [0u8; LONGEST];
     for i in 2..usize::MAX {
         match rt.arg(i, &mut word) {
-            Ok(n) => w.take(i, &word[..n]).map_err(|e| Wrong::Word(i, e))?,
-            Err(FillError::TooLong) => return Err(Wrong::LongWord),
+            Ok(n) => w.take(i, &word[..n]).map_err(|e| WrongAt::Word(i, e))?,
+            Err(FillError::TooLong) => return Err(WrongAt::LongWord),
             Err(FillError::NotPresent) => break,
         }
     }
@@ -46,12 +46,12 @@ fn words_in(rt: &HostRuntime) -> Result<Words, Wrong> {
 }
 
 // Stays: fixed buffers for the file and the answers, so that a pass needs no heap.
-fn with_words(rt: &HostRuntime, w: Words) -> Result<(), Wrong> {
+fn with_words(rt: &HostRuntime, w: Words) -> Result<(), WrongAt> {
     let mut space = [0u8; 1048576];
     with_space(rt, w, &mut space)
 }
 
-fn with_space(rt: &HostRuntime, w: Words, space: &mut [u8; 1048576]) -> Result<(), Wrong> {
+fn with_space(rt: &HostRuntime, w: Words, space: &mut [u8; 1048576]) -> Result<(), WrongAt> {
     let mut answers_space = [0u8; 65536];
     let file = files::load(rt, FILE, space)?;
     let answers = files::load_if(rt, w.answers, &mut answers_space)?;
@@ -63,9 +63,9 @@ fn with_files<'a>(
     w: Words,
     file: &'a [u8],
     answers: &'a [u8],
-) -> Result<(), Wrong> {
+) -> Result<(), WrongAt> {
     let answers = Frames(answers);
-    let count = answers.count().ok_or(Wrong::CutAnswer)?;
+    let count = answers.count().ok_or(WrongAt::CutAnswer)?;
     let state = put::put(rt, w, file.len())?;
     let given = Given {
         file,
@@ -79,10 +79,10 @@ fn with_files<'a>(
 
 // Stays: words, what is given and the state go on apart: each function takes what the next one needs, and the last ones take them into a pass.
 // The output is opened last, when all else is well; where it is none, that is said before the capture is closed.
-fn with_state(rt: &HostRuntime, w: Words, given: Given<'_>, state: State) -> Result<(), Wrong> {
+fn with_state(rt: &HostRuntime, w: Words, given: Given<'_>, state: State) -> Result<(), WrongAt> {
     let capture = w.pcap.map(|named| capture::open(rt, named)).transpose()?;
     if let Err(e) = with_capture(rt, w, given, state, capture.as_ref()) {
-        tell::complain(rt, e);
+        tell::complain_at(rt, e);
     }
     close(rt, capture, "capture");
     Ok(())
@@ -94,7 +94,7 @@ fn with_capture<'a>(
     given: Given<'_>,
     state: State,
     capture: Option<&'a File>,
-) -> Result<(), Wrong> {
+) -> Result<(), WrongAt> {
     let file = w.out.map(|named| files::open_over(rt, named)).transpose()?;
     let output = Output::new(rt, w.form, file.as_ref(), capture);
     pass(given, output, state);

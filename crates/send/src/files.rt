@@ -1,5 +1,5 @@
 // The files that the words name.
-use send_text::tell::Wrong;
+use send_text::tell::WrongAt;
 use send_text::words::{LONGEST, Named};
 use std::fs::File;
 use std::io::{Error, ErrorKind, Read};
@@ -28,13 +28,13 @@ fn read_whole<'b>(
 }
 
 // The whole file, where space holds it.
-pub fn load<'b>(rt: &HostRuntime, file: Named, space: &'b mut [u8]) -> Result<&'b [u8], Wrong> {
+pub fn load<'b>(rt: &HostRuntime, file: Named, space: &'b mut [u8]) -> Result<&'b [u8], WrongAt> {
     let mut word = [0u8; LONGEST];
     let most = space.len();
     match read_whole(rt, file.read(rt, &mut word), space) {
         Ok(Some(bytes)) => Ok(bytes),
-        Ok(None) => Err(Wrong::LargeFile(file.argument, most)),
-        Err(e) => Err(Wrong::File(file.argument, e)),
+        Ok(None) => Err(WrongAt::LargeFile(file.argument, most)),
+        Err(e) => Err(WrongAt::File(file.argument, e)),
     }
 }
 
@@ -43,7 +43,7 @@ pub fn load_if<'b>(
     rt: &HostRuntime,
     file: Option<Named>,
     space: &'b mut [u8],
-) -> Result<&'b [u8], Wrong> {
+) -> Result<&'b [u8], WrongAt> {
     match file {
         Some(file) => load(rt, file, space),
         None => Ok(&[]),
@@ -55,9 +55,9 @@ fn create(rt: &HostRuntime, name: &[u8]) -> io::Result<File> {
 }
 
 // The file, emptied.
-pub fn open_over(rt: &HostRuntime, file: Named) -> Result<File, Wrong> {
+pub fn open_over(rt: &HostRuntime, file: Named) -> Result<File, WrongAt> {
     let mut word = [0u8; LONGEST];
-    create(rt, file.read(rt, &mut word)).map_err(|e| Wrong::File(file.argument, e))
+    create(rt, file.read(rt, &mut word)).map_err(|e| WrongAt::File(file.argument, e))
 }
 
 // What the system held back has come to the file. A file of a kind that holds nothing back, as a pipe, says so by an error.

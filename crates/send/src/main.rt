@@ -13,6 +13,6 @@ use send_text::tell;
 
 fn main(rt: HostRuntime) {
     if let Err(e) = command::command(&rt) {
-        tell::complain(&rt, e);
+        tell::complain_at(&rt, e);
     }
 }

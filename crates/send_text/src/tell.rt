@@ -1,8 +1,12 @@
-// Lines to standard error: what is wrong, how far the pass is, what came of it. Each is put together first and written by one call. Where standard
-// error takes none, the program goes on.
+// Lines to standard error: what is wrong, how far the pass is, what came of it. Each is put together first and written by one call, but for one with a
+// word that is longer than LONGEST. Where standard error takes none, the program goes on.
+ghost use Rattle.std.specs.Prelude.{◌≡◌, ◌≤◌, length};
+ghost use Rattle.send_text.specs.declared.tell.Wrong.TheVariants.{Put, NoMemory};
+
 use crate::code;
 use crate::code::Finished;
 use crate::words::{BadWord, LONGEST, Named};
+use std::alloc::AllocError;
 use std::fmt::{Display, InlineText};
 use std::io::{Cursor, Error, Write};
 use std::{fmt, io};
@@ -15,9 +19,53 @@ pub fn line<D: Display + Drop>(rt: &HostRuntime, text: D) {
 
 // ---- what is wrong
 
-// Why a pass is not made. A word and a file stand here by the number of their argument.
+// Why a pass is not made. A word and a file stand here as they came.
 #[derive(Clone, Copy)]
-pub enum Wrong {
+pub enum Wrong<'a> {
+    // how many bytes a word may have
+    LongWord(usize),
+    Word(&'a [u8], BadWord),
+    File(&'a [u8], Error),
+    // how many bytes it may have
+    LargeFile(&'a [u8], usize),
+    CutAnswer,
+    Put(Refusal),
+    Capture(Error),
+    NoMemory,
+}
+
+impl From<AllocError> for Wrong<'_> {
+    ghost from_gives = { λ _ w. w ≡ NoMemory };
+
+    fn from(_e: AllocError) -> Self {
+        Self::NoMemory
+    }
+}
+
+impl From<Refusal> for Wrong<'_> {
+    ghost from_gives = { λ r w. w ≡ Put r };
+
+    fn from(r: Refusal) -> Self {
+        Self::Put(r)
+    }
+}
+
+pub fn complain(rt: &HostRuntime, w: Wrong<'_>) {
+    match w {
+        Wrong::LongWord(most) => long_word(rt, most),
+        Wrong::Word(word, e) => word.about(rt, bad_word(e), ""),
+        Wrong::File(word, e) => failed(rt, word, e),
+        Wrong::LargeFile(word, most) => large_file(rt, word, most),
+        Wrong::CutAnswer => cut_answer(rt),
+        Wrong::Put(r) => refused(rt, "put", r),
+        Wrong::Capture(e) => cut_short(rt, "capture", 0, e),
+        Wrong::NoMemory => line(rt, "out of memory"),
+    }
+}
+
+// The same of the command line: a word and a file stand here by the number of their argument.
+#[derive(Clone, Copy)]
+pub enum WrongAt {
     LongWord,
     Word(usize, BadWord),
     File(usize, Error),
@@ -28,29 +76,55 @@ pub enum Wrong {
     Capture(Error),
 }
 
-impl From<Refusal> for Wrong {
+impl From<Refusal> for WrongAt {
     fn from(r: Refusal) -> Self {
-        Wrong::Put(r)
+        WrongAt::Put(r)
     }
 }
 
-pub fn complain(rt: &HostRuntime, w: Wrong) {
+pub fn complain_at(rt: &HostRuntime, w: WrongAt) {
     match w {
-        Wrong::LongWord => line(rt, format_args!("a word is longer than {LONGEST} bytes")),
-        Wrong::Word(i, BadWord::Unknown) => about(rt, "unknown word: ", i, ""),
-        Wrong::Word(i, BadWord::Value) => about(rt, "bad value: ", i, ""),
-        Wrong::File(i, e) => failed(rt, i, e),
-        Wrong::LargeFile(i, most) => about(rt, "", i, format_args!(": larger than {most} bytes")),
-        Wrong::CutAnswer => line(rt, "the last answer is cut short; nothing was sent"),
-        Wrong::Put(r) => refused(rt, "put", r),
-        Wrong::Capture(e) => cut_short(rt, "capture", 0, e),
+        WrongAt::LongWord => long_word(rt, LONGEST),
+        WrongAt::Word(i, e) => i.about(rt, bad_word(e), ""),
+        WrongAt::File(i, e) => failed(rt, i, e),
+        WrongAt::LargeFile(i, most) => large_file(rt, i, most),
+        WrongAt::CutAnswer => cut_answer(rt),
+        WrongAt::Put(r) => refused(rt, "put", r),
+        WrongAt::Capture(e) => cut_short(rt, "capture", 0, e),
     }
 }
 
-// A line with a word as it came, which need be no text.
-// Stays: fixed buffers, so that what is wrong is said without a heap. A word has at most 4,096 bytes, and what stands about it under 512.
-fn joined<D: Display + Drop>(
-    out: &mut Cursor<[u8; 4608]>,
+// ---- a word or a file in a line, as it came, which need be no text
+
+// By its bytes, or by the number of its argument.
+trait Subject: Copy {
+    fn about<D: Display + Drop>(self, rt: &HostRuntime, before: &str, after: D);
+}
+
+impl Subject for &[u8] {
+    // A word of the command line has at most 4,096 bytes; a line with a longer one is written piece by piece.
+    fn about<D: Display + Drop>(self, rt: &HostRuntime, before: &str, after: D) {
+        if self.len() <= LONGEST {
+            at_once(rt, before, self, after);
+        } else {
+            let _ = joined(&mut rt.stderr(), before, self, after);
+        }
+    }
+}
+
+impl Subject for usize {
+    fn about<D: Display + Drop>(self, rt: &HostRuntime, before: &str, after: D) {
+        let mut space = [0u8; LONGEST];
+        let named = Named {
+            argument: self,
+            start: 0,
+        };
+        at_once(rt, before, named.read(rt, &mut space), after);
+    }
+}
+
+fn joined<D: Display + Drop, W: Write>(
+    out: &mut W,
     before: &str,
     word: &[u8],
     after: D,
@@ -60,13 +134,30 @@ fn joined<D: Display + Drop>(
     writeln!(out, "{after}")
 }
 
-fn about<D: Display + Drop>(rt: &HostRuntime, before: &str, argument: usize, after: D) {
-    let mut space = [0u8; LONGEST];
-    let word = Named { argument, start: 0 }.read(rt, &mut space);
+// Stays: fixed buffers, so that what is wrong is said without a heap. The word has at most 4,096 bytes, and what stands about it under 512.
+fn at_once<D: Display + Drop>(rt: &HostRuntime, before: &str, word: &[u8], after: D)
+    requires { length word.now ≤ 4096 }
+{
     let mut out = Cursor::new([0u8; 4608]);
     let _ = joined(&mut out, before, word, after);
     let n = out.position() as usize;
     let _ = rt.stderr().write_all(out.get_ref().get(..n).unwrap_or(&[]));
+}
+
+fn long_word(rt: &HostRuntime, most: usize) {
+    line(rt, format_args!("a word is longer than {most} bytes"));
+}
+
+// What stands before a bad word.
+fn bad_word(e: BadWord) -> &'static str {
+    match e {
+        BadWord::Unknown => "unknown word: ",
+        BadWord::Value => "bad value: ",
+    }
+}
+
+fn large_file<S: Subject>(rt: &HostRuntime, file: S, most: usize) {
+    file.about(rt, "", format_args!(": larger than {most} bytes"));
 }
 
 // Why the system refuses something, in its words, without the number that std sets behind them.
@@ -86,10 +177,14 @@ impl fmt::Display for Reason {
     }
 }
 
+fn cut_answer(rt: &HostRuntime) {
+    line(rt, "the last answer is cut short; nothing was sent");
+}
+
 // A file that the system refuses, with its reason.
-fn failed(rt: &HostRuntime, argument: usize, e: Error) {
+fn failed<S: Subject>(rt: &HostRuntime, file: S, e: Error) {
     let reason = Reason(e);
-    about(rt, "", argument, format_args!(": {reason}"));
+    file.about(rt, "", format_args!(": {reason}"));
 }
 
 // A write failed: how much there is of the output or the capture, and the system's reason.
@@ -184,4 +279,80 @@ pub fn usage(rt: &HostRuntime) {
          [closure=yes|no] [crc=yes|no] [checksum=modular|crc32c|crc32|null] [segment=1024] [packet=1024]\n    \
          [source=NAME] [dest=NAME] [limit=N] [burst=N] [out=FILE] [pcap=FILE] [answers=FILE] [--hex] [--say]"
     );
+}
+
+#[cfg(test)]
+mod tests {
+    use super::*;
+
+    // No test has these words on its command line. What is expected is sought in standard error.
+    #[should_panic(expected = "send: unknown word: burts=4")]
+    #[test]
+    fn says_a_word(rt: HostRuntime) {
+        complain(&rt, Wrong::Word(b"burts=4", BadWord::Unknown));
+        panic!(rt; "the line stands above")
+    }
+
+    #[should_panic(expected = "send: bad value: burst=17")]
+    #[test]
+    fn says_a_value(rt: HostRuntime) {
+        complain(&rt, Wrong::Word(b"burst=17", BadWord::Value));
+        panic!(rt; "the line stands above")
+    }
+
+    #[should_panic(expected = "send: a word is longer than 77 bytes")]
+    #[test]
+    fn says_how_long_a_word_may_be(rt: HostRuntime) {
+        complain(&rt, Wrong::LongWord(77));
+        panic!(rt; "the line stands above")
+    }
+
+    #[should_panic(expected = "send: notes: it grew")]
+    #[test]
+    fn says_a_file(rt: HostRuntime) {
+        complain(&rt, Wrong::File(b"notes", Error::other("it grew")));
+        panic!(rt; "the line stands above")
+    }
+
+    #[should_panic(expected = "send: xx")]
+    #[test]
+    fn says_a_long_name_from_its_start(rt: HostRuntime) {
+        complain(&rt, Wrong::LargeFile(&[b'x'; 5000], 65536));
+        panic!(rt; "the line stands above")
+    }
+
+    #[should_panic(expected = "xx: larger than 65536 bytes")]
+    #[test]
+    fn says_a_long_name_to_its_end(rt: HostRuntime) {
+        complain(&rt, Wrong::LargeFile(&[b'x'; 5000], 65536));
+        panic!(rt; "the line stands above")
+    }
+
+    #[should_panic(expected = "send: the last answer is cut short; nothing was sent")]
+    #[test]
+    fn says_a_cut_answer(rt: HostRuntime) {
+        complain(&rt, Wrong::CutAnswer);
+        panic!(rt; "the line stands above")
+    }
+
+    #[should_panic(expected = "send: put refused: 1 AlreadyBusy")]
+    #[test]
+    fn says_a_refusal(rt: HostRuntime) {
+        complain(&rt, Wrong::from(Refusal::AlreadyBusy));
+        panic!(rt; "the line stands above")
+    }
+
+    #[should_panic(expected = "send: the capture ends after 0 whole PDUs: no room")]
+    #[test]
+    fn says_a_capture(rt: HostRuntime) {
+        complain(&rt, Wrong::Capture(Error::other("no room")));
+        panic!(rt; "the line stands above")
+    }
+
+    #[should_panic(expected = "send: out of memory")]
+    #[test]
+    fn says_that_memory_is_out(rt: HostRuntime) {
+        complain(&rt, Wrong::from(AllocError));
+        panic!(rt; "the line stands above")
+    }
 }
