@@ -1,7 +1,8 @@
 // Lines to standard error: what is wrong, how far the pass is, what came of it. Each is put together first and written by one call, but for one with a
-// word that is longer than LONGEST. Where standard error takes none, the program goes on.
-ghost use Rattle.std.specs.Prelude.{◌≡◌, ◌≤◌, length};
-ghost use Rattle.send_text.specs.declared.tell.Wrong.TheVariants.{Put, NoMemory};
+// word longer than any that the program takes. Where standard error takes none, the program goes on.
+ghost use Rattle.std.specs.Prelude.{◌≡◌};
+ghost use Rattle.send_text.specs.declared.tell.Wrong.{Wrong};
+ghost use Rattle.send_text.specs.declared.tell.WrongAt.{WrongAt};
 
 use crate::code;
 use crate::code::Finished;
@@ -35,7 +36,7 @@ pub enum Wrong<'a> {
 }
 
 impl From<AllocError> for Wrong<'_> {
-    ghost from_gives = { λ _ w. w ≡ NoMemory };
+    ghost from_gives = { λ _ w. w ≡ Wrong.NoMemory };
 
     fn from(_e: AllocError) -> Self {
         Self::NoMemory
@@ -43,7 +44,7 @@ impl From<AllocError> for Wrong<'_> {
 }
 
 impl From<Refusal> for Wrong<'_> {
-    ghost from_gives = { λ r w. w ≡ Put r };
+    ghost from_gives = { λ r w. w ≡ Wrong.Put r };
 
     fn from(r: Refusal) -> Self {
         Self::Put(r)
@@ -64,6 +65,7 @@ pub fn complain(rt: &HostRuntime, w: Wrong<'_>) {
 }
 
 // The same of the command line: a word and a file stand here by the number of their argument.
+// Stays: a type beside Wrong, since a program that reads a word when it is needed has no bytes to hand on.
 #[derive(Clone, Copy)]
 pub enum WrongAt {
     LongWord,
@@ -77,8 +79,10 @@ pub enum WrongAt {
 }
 
 impl From<Refusal> for WrongAt {
-    fn from(r: Refusal) -> Self {
-        WrongAt::Put(r)
+    ghost from_gives = { λ r w. w ≡ WrongAt.Put r };
+
+    fn from(refusal: Refusal) -> Self {
+        Self::Put(refusal)
     }
 }
 
@@ -102,12 +106,15 @@ trait Subject: Copy {
 }
 
 impl Subject for &[u8] {
-    // A word of the command line has at most 4,096 bytes; a line with a longer one is written piece by piece.
+    // Stays: a fixed buffer, so that what is wrong is said without a heap. A word of at most 4,096 bytes has room, with under 512 about it; a line that has
+    // none is written piece by piece.
     fn about<D: Display + Drop>(self, rt: &HostRuntime, before: &str, after: D) {
-        if self.len() <= LONGEST {
-            at_once(rt, before, self, after);
+        let mut out = Cursor::new([0u8; 4608]);
+        if joined(&mut out, before, self, &after).is_ok() {
+            let n = out.position() as usize;
+            let _ = rt.stderr().write_all(out.get_ref().get(..n).unwrap_or(&[]));
         } else {
-            let _ = joined(&mut rt.stderr(), before, self, after);
+            let _ = joined(&mut rt.stderr(), before, self, &after);
         }
     }
 }
@@ -119,29 +126,19 @@ impl Subject for usize {
             argument: self,
             start: 0,
         };
-        at_once(rt, before, named.read(rt, &mut space), after);
+        named.read(rt, &mut space).about(rt, before, after);
     }
 }
 
-fn joined<D: Display + Drop, W: Write>(
+fn joined<D: Display, W: Write>(
     out: &mut W,
     before: &str,
     word: &[u8],
-    after: D,
+    after: &D,
 ) -> io::Result<()> {
     write!(out, "send: {before}")?;
     out.write_all(word)?;
     writeln!(out, "{after}")
-}
-
-// Stays: fixed buffers, so that what is wrong is said without a heap. The word has at most 4,096 bytes, and what stands about it under 512.
-fn at_once<D: Display + Drop>(rt: &HostRuntime, before: &str, word: &[u8], after: D)
-    requires { length word.now ≤ 4096 }
-{
-    let mut out = Cursor::new([0u8; 4608]);
-    let _ = joined(&mut out, before, word, after);
-    let n = out.position() as usize;
-    let _ = rt.stderr().write_all(out.get_ref().get(..n).unwrap_or(&[]));
 }
 
 fn long_word(rt: &HostRuntime, most: usize) {
@@ -314,17 +311,25 @@ mod tests {
         panic!(rt; "the line stands above")
     }
 
-    #[should_panic(expected = "send: xx")]
+    // A name for which the buffer has no room.
+    fn long_name() -> [u8; 5000] {
+        let mut name = [b'x'; 5000];
+        name[0] = b'a';
+        name[4999] = b'z';
+        name
+    }
+
+    #[should_panic(expected = "send: ax")]
     #[test]
     fn says_a_long_name_from_its_start(rt: HostRuntime) {
-        complain(&rt, Wrong::LargeFile(&[b'x'; 5000], 65536));
+        complain(&rt, Wrong::LargeFile(&long_name(), 65536));
         panic!(rt; "the line stands above")
     }
 
-    #[should_panic(expected = "xx: larger than 65536 bytes")]
+    #[should_panic(expected = "xz: larger than 65536 bytes")]
     #[test]
     fn says_a_long_name_to_its_end(rt: HostRuntime) {
-        complain(&rt, Wrong::LargeFile(&[b'x'; 5000], 65536));
+        complain(&rt, Wrong::LargeFile(&long_name(), 65536));
         panic!(rt; "the line stands above")
     }
 
